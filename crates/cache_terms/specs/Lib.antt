@@ -1,0 +1,4 @@
+pub mod Keys
+pub mod TagRules
+pub mod Tags
+pub mod Offers

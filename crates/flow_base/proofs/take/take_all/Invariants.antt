@@ -1,0 +1,12 @@
+use Rattle.std.proofs.Common.{◌≤◌, length, ◌+◌, ◌-◌}
+use Rattle.std.specs.Io.KnownBytes.{Consumes}
+use Rattle.flow_base.proofs.take.take_all.Given as goal
+
+abbrev pub invariant-loop-buf : goal.invariant-loop-buf
+invariant-loop-buf g l = record {
+  taken : Consumes (g.S.Source.left l.fn.source) (g.S.Source.left l.source) l.taken.items;
+  later : g.S.Source.faults l.fn.source ≤ g.S.Source.faults l.source;
+}
+
+abbrev pub decreases-loop-buf : goal.decreases-loop-buf
+decreases-loop-buf g l = l.limit + 1 - length l.taken.items
