@@ -1,0 +1,4 @@
+pub mod Spending
+pub mod Asking
+pub mod Asks
+pub mod Owing

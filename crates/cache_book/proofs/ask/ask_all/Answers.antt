@@ -1,0 +1,51 @@
+use Rattle.std.proofs.Common.{◌≡◌, ◌+◌, ◌≤◌, [], ◌∷◌, ◌++◌, length, ap, arith}
+use Rattle.std.specs.Prelude.{IsOk}
+use Rattle.std.specs.Option.{option_copied}
+use Rattle.std.specs.Vec.Iter.{into_iter_items, into_iter_len}
+use Rattle.std.proofs.lemmas.Grind.{common_steps}
+use Rattle.cache_model.specs.Journal.{reserved}
+use Rattle.cache_book.specs.Looking.{Asked}
+use Rattle.cache_book.proofs.Asking.{asked_legal, asked_room, asked_appends}
+use Rattle.cache_book.proofs.Owing.{asks_owed, asks_keep}
+use Rattle.cache_book.proofs.Asks.{asks_step, asks_done, front_kept}
+use Rattle.cache_book.proofs.ask.ask_all.Goals as goal
+
+pub asks-preserved : goal.asks-preserved
+asks-preserved c =
+    let pass = c.args.pass in
+    let id = option_copied c.args.id in
+    let J = c.asks.events.items in
+    let K = c.ask.new.events.items in
+    let key = c.in-Some.key in
+    let answer = c.in-Ok.answer in
+    let next = rw c.in-Some.is at c.next.ensures.steps in
+    let keys = into_iter_items c.asks.key-iterator in
+    let rest = into_iter_items c.next.new.self in
+    let split : keys ≡ key ∷ rest = next.0 in
+    let longer : length keys ≡ length rest + 1 = omega (arith, ap length split) in
+    let fewer : into_iter_len c.next.new.self + 1 ≡ into_iter_len c.asks.key-iterator = next.1 in
+    let room : length J + reserved J + 3 ≤ c.args.limits.events = omega (arith, c.asks.invariant.room, longer) in
+    let one : Asked pass id c.args.now key J answer K = c.in-Ok.ensures.ok in
+    let more = asked_appends pass id c.args.now key J answer K one in
+    let ok : IsOk c.push.result = c.push.ensures.succeeds (omega (arith, fewer, c.asks.invariant.slots)) in
+    let pushed : c.push.new.self.items ≡ c.asks.answers.items ++ answer ∷ [] = grind (arith, common_steps, ok) in
+    record {
+      rest = λ fs L h. rw pushed (asks_step pass id c.args.now c.args.asks.items keys rest key c.args.events.now.items J K c.asks.answers.items answer split one c.asks.invariant.rest fs L h);
+      front = rw more.1 (front_kept c.args.events.now.items J (more.0) c.asks.invariant.front);
+      legal = asked_legal c.args.limits pass id c.args.now key J answer K c.asks.invariant.legal room one;
+      room = omega (arith, c.asks.invariant.room, longer, asked_room pass id c.args.now key J answer K one);
+      capacity = c.ask.ensures.capacity;
+      slots = omega (arith, c.asks.invariant.slots, c.push.ensures.upper_bound, c.push.ensures.capacity, fewer);
+    }
+
+pub returns-clause-ok : goal.returns-clause-ok
+returns-clause-ok c =
+    let ended = rw c.in-None.is at c.next.ensures.steps in
+    let none : length (into_iter_items c.asks.key-iterator) ≡ 0 = omega (arith, ended.0, c.asks.key-iterator.rest.ok.0) in
+    asks_done c.args.pass (option_copied c.args.id) c.args.now c.args.asks.items (into_iter_items c.asks.key-iterator) c.args.events.now.items c.asks.events.items c.asks.answers.items none c.asks.invariant.rest
+
+pub returns-clause-owed : goal.returns-clause-owed
+returns-clause-owed c = λ epoch. asks_owed c.args.limits epoch c.args.pass (option_copied c.args.id) c.args.now c.args.asks.items c.args.events.now.items c.asks.answers.items c.asks.events.items c.requires.legal c.requires.room (returns-clause-ok c)
+
+pub returns-clause-keeps : goal.returns-clause-keeps
+returns-clause-keeps c = λ t s h. asks_keep c.args.pass (option_copied c.args.id) c.args.now c.args.asks.items c.args.events.now.items c.asks.answers.items c.asks.events.items (returns-clause-ok c) t s h

@@ -1,0 +1,279 @@
+ghost use Rattle.std.specs.Prelude.{◌≡◌, ◌+◌, ◌*◌, ◌<◌, ◌≤◌, [], ◌∷◌, ◌++◌, length, vec_capacity, IfOk, IfSome, OnOk, OnErr, Some, None, Option};
+ghost use Rattle.std.specs.Option.{option_copied};
+ghost use Rattle.cache_terms.specs.Keys.{key_bytes};
+ghost use Rattle.std.specs.Prelude.{ℕ};
+ghost use Rattle.cache_book.specs.Owed.{AreOwed};
+ghost use Rattle.cache_model.specs.Journal.{Started, IsOpen, reserved, IsSound, IsChoice, IsGoodAt};
+ghost use Rattle.cache_model.specs.Legal.{IsLegal};
+ghost use Rattle.cache_book.specs.Looking.{Asked, AskedAll, bypassed, bypass_mark};
+ghost use Rattle.cache_model.specs.State.{IsWithinRanges};
+
+use crate::scan::{kept_at, reserved_of, served, starts_of};
+use crate::{Found, Pass, Permit};
+use cache_terms::{Event, Key, Limits, Mark};
+use flow_base::{Memory, Text};
+use std::alloc::Global;
+
+/// The longest key that is kept.
+const WIDEST: u64 = 16384;
+
+/// The position that is chosen for a key and an id: the caller's own piece, or else the public one.
+pub fn chosen(events: &[Event], key: &Key, id: Option<&Text>, now: u64) -> Option<usize>
+    requires { IsSound events.now }
+    ensures choice { IsChoice events.now key.now (option_copied id.entry) now result }
+    ensures kept { IfSome result (IsGoodAt events.now now) }
+{
+    match id {
+        None => served(events, key, None, now),
+        Some(_) => match served(events, key, id, now) {
+            Some(at) => Some(at),
+            None => served(events, key, None, now),
+        },
+    }
+}
+
+fn copy_id(id: Option<&Text>) -> Result<Option<Text>, Memory>
+    ensures { IfOk result (λ copy. copy ≡ option_copied id.entry) }
+{
+    match id {
+        Some(id) => Ok(Some(id.copy()?)),
+        None => Ok(None),
+    }
+}
+
+/// Answers an ask for which nothing can be chosen.
+fn miss(
+    events: &mut Vec<Event>,
+    limits: Limits,
+    pass: Pass,
+    id: Option<&Text>,
+    now: u64,
+    key: Key,
+) -> Result<Found, Memory>
+    requires legal { IsLegal limits events.old.items }
+    requires room { length events.old.items + reserved events.old.items + 3 ≤ limits.events }
+    requires capacity { limits.events ≤ vec_capacity events.old }
+    requires narrow { key_bytes key ≤ 16384 }
+    requires choice { IsChoice events.old.items key (option_copied id) now None }
+    ensures ok { IfOk result (λ answer. Asked pass (option_copied id.entry) now key events.old.items answer events.new.items) }
+    ensures err { OnErr result (events.new.items ≡ events.old.items) }
+    ensures capacity { limits.events ≤ vec_capacity events.new }
+{
+    let lookup = events.len() as u64;
+    let ticket = starts_of(events);
+    let who = pass.who();
+    let looked = Event::Lookup {
+        who,
+        key: key.copy()?,
+        id: copy_id(id)?,
+        now,
+        hit: None,
+    };
+    let started = Event::Start {
+        who,
+        ticket,
+        key: key.copy()?,
+        id: copy_id(id)?,
+        now,
+    };
+    events.push(looked).unwrap();
+    events.push(started).unwrap();
+    Ok(Found::Miss {
+        lookup,
+        permit: Permit {
+            who,
+            epoch: pass.epoch(),
+            mark: Mark::Ticket(ticket),
+            key,
+            named: id.is_some(),
+        },
+    })
+}
+
+/// Answers an ask by the piece that is chosen.
+fn hit(
+    events: &mut Vec<Event>,
+    pass: Pass,
+    id: Option<&Text>,
+    now: u64,
+    key: Key,
+    at: usize,
+) -> Result<Found, Memory>
+    requires sound { IsSound events.old.items }
+    requires room { length events.old.items < vec_capacity events.old }
+    requires narrow { key_bytes key ≤ 16384 }
+    requires choice { IsChoice events.old.items key (option_copied id) now (Some at) }
+    requires kept { IsGoodAt events.old.items now at }
+    ensures ok { IfOk result (λ answer. Asked pass (option_copied id.entry) now key events.old.items answer events.new.items) }
+    ensures err { OnErr result (events.new.items ≡ events.old.items) }
+    ensures capacity { vec_capacity events.old ≤ vec_capacity events.new }
+{
+    let kept = kept_at(events, at).unwrap();
+    let left_ms = kept.remaining(now).unwrap();
+    let private = kept.got.verdict.private;
+    let value = kept.got.value.as_ref().unwrap().copy()?;
+    let lookup = events.len() as u64;
+    let looked = Event::Lookup {
+        who: pass.who(),
+        key,
+        id: copy_id(id)?,
+        now,
+        hit: Some(at as u64),
+    };
+    events.push(looked).unwrap();
+    Ok(Found::Hit {
+        lookup,
+        stored: at as u64,
+        value,
+        left_ms,
+        private,
+    })
+}
+
+/// Answers one ask.
+pub fn ask(
+    events: &mut Vec<Event>,
+    limits: Limits,
+    pass: Pass,
+    id: Option<&Text>,
+    now: u64,
+    key: Key,
+) -> Result<Found, Memory>
+    requires legal { IsLegal limits events.old.items }
+    requires room { length events.old.items + reserved events.old.items + 3 ≤ limits.events }
+    requires capacity { limits.events ≤ vec_capacity events.old }
+    ensures ok { IfOk result (λ answer. Asked pass (option_copied id.entry) now key events.old.items answer events.new.items) }
+    ensures err { OnErr result (events.new.items ≡ events.old.items) }
+    ensures capacity { limits.events ≤ vec_capacity events.new }
+{
+    let bytes = key.bytes();
+    if bytes > WIDEST {
+        return Ok(Found::Bypass {
+            permit: Permit {
+                who: pass.who(),
+                epoch: pass.epoch(),
+                mark: Mark::Wide {
+                    bytes,
+                    limit: WIDEST,
+                },
+                key,
+                named: id.is_some(),
+            },
+        });
+    }
+    match chosen(events, &key, id, now) {
+        Some(at) => hit(events, pass, id, now, key, at),
+        None => miss(events, limits, pass, id, now, key),
+    }
+}
+
+/// Answers the asks in order, or leaves the events as they were.
+pub fn ask_all(
+    events: &mut Vec<Event>,
+    limits: Limits,
+    pass: Pass,
+    id: Option<&Text>,
+    now: u64,
+    asks: Vec<Key>,
+) -> Result<Vec<Found>, Memory>
+    requires legal { IsLegal limits events.old.items }
+    requires room { length events.old.items + reserved events.old.items + 3 * length asks.items ≤ limits.events }
+    requires capacity { limits.events ≤ vec_capacity events.old }
+    ensures ok { IfOk result (λ answers. AskedAll pass (option_copied id.entry) now asks.items events.old.items answers.items events.new.items) }
+    ensures err { OnErr result (events.new.items ≡ events.old.items) }
+    ensures owed { IfOk result (λ answers. (epoch : ℕ) → AreOwed (record { limits = limits; epoch = epoch; journal = events.new.items }) answers.items) }
+    ensures keeps { (t : ℕ) (s : Started) → IsOpen events.old.items t s → IsOpen events.new.items t s }
+    ensures legal { IsLegal limits events.new.items }
+    ensures capacity { limits.events ≤ vec_capacity events.new }
+{
+    let before = events.len();
+    let mut answers = Vec::with_capacity(*events.allocator(), asks.len())?;
+    'asks: for key in asks {
+        match ask(events, limits, pass, id, now, key) {
+            Ok(answer) => answers.push(answer).unwrap(),
+            Err(memory) => {
+                events.truncate(before);
+                discard(answers);
+                return Err(memory);
+            }
+        }
+    }
+    Ok(answers)
+}
+
+/// Lets go of answers that nobody was given.
+fn discard(answers: Vec<Found>) {
+    let mut answers = answers;
+    while let Some(answer) = answers.pop() {
+        match answer {
+            Found::Hit {
+                lookup: _,
+                stored: _,
+                value: _value,
+                left_ms: _,
+                private: _,
+            } => {}
+            Found::Miss { lookup: _, permit } => permit.discard(),
+            Found::Bypass { permit } => permit.discard(),
+        }
+    }
+    answers.destroy_empty();
+}
+
+/// Answers all asks by permits without a ticket.
+pub fn bypass_all(
+    alloc: Global,
+    pass: Pass,
+    id: Option<&Text>,
+    mark: Mark,
+    asks: Vec<Key>,
+) -> Result<Vec<Found>, Memory>
+    ensures { IfOk result (λ answers. answers.items ≡ bypassed pass (option_copied id.entry) mark asks.items) }
+{
+    let mut answers = Vec::with_capacity(alloc, asks.len())?;
+    'asks: for key in asks {
+        let permit = Permit {
+            who: pass.who(),
+            epoch: pass.epoch(),
+            mark,
+            key,
+            named: id.is_some(),
+        };
+        answers.push(Found::Bypass { permit }).unwrap();
+    }
+    Ok(answers)
+}
+
+/// Why a whole look goes past the journal, if it does.
+pub fn bypass_mark(
+    epoch: u64,
+    limits: Limits,
+    events: &[Event],
+    pass: Pass,
+    asks: usize,
+) -> Option<Mark>
+    requires { IsWithinRanges limits }
+    ensures { result ≡ bypass_mark (record { limits = limits; epoch = epoch; journal = events.now }) pass asks }
+{
+    if epoch == u64::MAX {
+        return Some(Mark::Retired);
+    }
+    if pass.epoch() != epoch {
+        return Some(Mark::Over {
+            pinned: pass.epoch(),
+            current: epoch,
+        });
+    }
+    let length = events.len() as u64;
+    let reserved = reserved_of(events);
+    let needed = (asks as u64).saturating_mul(3);
+    if length.saturating_add(reserved).saturating_add(needed) > limits.events {
+        return Some(Mark::Full {
+            length,
+            reserved,
+            needed,
+            limit: limits.events,
+        });
+    }
+    None
+}

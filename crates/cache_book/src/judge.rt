@@ -1,0 +1,121 @@
+ghost use Rattle.std.specs.Prelude.{◌≡◌, ◌+◌, ◌≤◌, length, [], ◌∷◌, ◌++◌, IsSome, Some, vec_capacity};
+ghost use Rattle.cache_terms.specs.declared.events.Event.TheVariants.{Settle, Invalidate};
+ghost use Rattle.cache_model.specs.State.{IsWithinRanges};
+ghost use Rattle.cache_model.specs.Journal.{bytes, Started, start_of, reserved, IsHeldUnder, IsCount};
+ghost use Rattle.cache_model.specs.Legal.{IsDue, IsLegal};
+ghost use Rattle.cache_book.specs.Settling.{got_of, got_by, value_kept, IsOwedTo, IsInRange};
+ghost use Rattle.cache_book.specs.Scan.{start_shown};
+
+use crate::Report;
+use crate::scan::{StartRef, bytes_of, count_held, last_cover, start_of};
+use cache_terms::{Event, Got, Limits, Offer, Outcome, Target, why};
+
+/// The outcome that is due to an offer.
+fn outcome_of(events: &[Event], limits: Limits, start: StartRef, offer: &Offer) -> Outcome
+    requires within { bytes events.now ≤ limits.bytes }
+    requires range { limits.bytes ≤ 268435456 }
+    ensures { IsDue limits events.now (start_shown start.entry) (Some (got_of offer.now result)) result }
+{
+    if let Some(why) = why(offer, start.id.is_some()) {
+        return Outcome::Unstorable(why);
+    }
+    if let Some(at) = last_cover(events, start.at, start.key, &offer.tags) {
+        return Outcome::Void(at as u64);
+    }
+    let bytes = bytes_of(events);
+    let adds = offer.size();
+    if limits.bytes - bytes < adds {
+        return Outcome::NoRoom {
+            bytes,
+            adds,
+            limit: limits.bytes,
+        };
+    }
+    Outcome::Stored
+}
+
+/// What a Settle keeps of a report, and its outcome.
+pub fn judge(
+    events: &[Event],
+    limits: Limits,
+    ticket: u64,
+    report: Report,
+) -> (Option<Got>, Outcome)
+    requires within { bytes events.now ≤ limits.bytes }
+    requires range { limits.bytes ≤ 268435456 }
+    requires started { IsSome (start_of events.now ticket) }
+    ensures got { result.0 ≡ got_by report result.1 }
+    ensures due { (s : Started) → start_of events.now ticket ≡ Some s → IsDue limits events.now s result.0 result.1 }
+{
+    match report {
+        Report::Failed => (None, Outcome::Failed),
+        Report::Got(offer) => {
+            let start = start_of(events, ticket).unwrap();
+            let outcome = outcome_of(events, limits, start, &offer);
+            let size = offer.size();
+            let Offer {
+                value,
+                tags,
+                verdict,
+                marks,
+            } = offer;
+            let value = match outcome {
+                Outcome::Stored => Some(value),
+                _ => None,
+            };
+            let got = Got {
+                value,
+                size,
+                tags,
+                verdict,
+                marks,
+            };
+            (Some(got), outcome)
+        }
+    }
+}
+
+/// Appends the Settle of an open ticket, whose room was kept.
+pub fn append_settle(
+    events: &mut Vec<Event>,
+    limits: Limits,
+    who: u32,
+    ticket: u64,
+    report: Report,
+) -> Outcome
+    requires legal { IsLegal limits events.old.items }
+    requires within { IsWithinRanges limits }
+    requires room { limits.events ≤ vec_capacity events.old }
+    requires owed { IsOwedTo events.old.items ticket who }
+    requires range { IsInRange report }
+    ensures after { events.new.items ≡ events.old.items ++ Settle who ticket (got_by report result) result ∷ [] }
+    ensures due { (s : Started) → start_of events.old.items ticket ≡ Some s → IsDue limits events.old.items s (got_by report result) result }
+    ensures legal { IsLegal limits events.new.items }
+    ensures room { limits.events ≤ vec_capacity events.new }
+{
+    let (got, outcome) = judge(events, limits, ticket, report);
+    let settle = Event::Settle {
+        who,
+        ticket,
+        got,
+        outcome,
+    };
+    events.push(settle).unwrap();
+    outcome
+}
+
+/// Appends an Invalidate, which needs the room for one event.
+pub fn append_void(events: &mut Vec<Event>, limits: Limits, who: u32, target: Target) -> u64
+    requires legal { IsLegal limits events.old.items }
+    requires free { length events.old.items + reserved events.old.items + 1 ≤ limits.events }
+    requires room { limits.events ≤ vec_capacity events.old }
+    ensures after { events.new.items ≡ events.old.items ++ Invalidate who target result ∷ [] }
+    ensures count { IsCount (IsHeldUnder events.old.items target) (length events.old.items) result }
+    ensures legal { IsLegal limits events.new.items }
+    ensures room { limits.events ≤ vec_capacity events.new }
+{
+    let count = count_held(events, &target);
+    let void = Event::Invalidate { who, target, count };
+    events.push(void).unwrap();
+    count
+}

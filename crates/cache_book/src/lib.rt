@@ -1,0 +1,21 @@
+//! The cache: a journal of events, and the calls that append to it.
+//!
+//! It is the plainest representation, a list of events: what is held, chosen or due is found by going over the
+//! list. A call takes time in the square of the number of events at most, but for `invalidate`, whose count
+//! takes the cube.
+#![tactic(auto)]
+
+mod answers;
+mod ask;
+mod book;
+mod found;
+mod judge;
+mod pass;
+mod permit;
+mod scan;
+
+pub use answers::Settled;
+pub use book::Book;
+pub use found::Found;
+pub use pass::Pass;
+pub use permit::{Fill, Permit, Report};

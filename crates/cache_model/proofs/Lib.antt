@@ -1,0 +1,5 @@
+pub mod Last
+pub mod Growth
+pub mod Sound
+pub mod Legality
+pub mod Tickets

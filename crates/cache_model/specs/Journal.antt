@@ -1,0 +1,196 @@
+-- What a journal says: which tickets are open, what is held, and what is chosen.
+use Rattle.std.specs.Prelude.{◌≡◌, ◌⊎◌, ℕ, ◌+◌, ◌-◌, ◌*◌, ◌<◌, ◌≤◌, Bool, true, false, not, ◌==◌, if◌then◌else◌, List, [], ◌∷◌, sum_by, count_by, slice_get, IsSomeAnd, is_some, Option, Some, None}
+use Rattle.std.proofs.Common.{zero, suc}
+use Rattle.std.specs.List.{list_any}
+use Rattle.std.specs.Option.{option_map, option_and_then}
+use Rattle.cache_terms.specs.declared.keys.Key.{Key}
+use Rattle.cache_terms.specs.declared.keys.Target.{Target}
+use Rattle.cache_terms.specs.declared.tags.Tags.{Tags}
+use Rattle.cache_terms.specs.declared.offers.Verdict.{Verdict}
+use Rattle.cache_terms.specs.declared.events.Got.{Got}
+use Rattle.cache_terms.specs.declared.events.Event.{Event}
+use Rattle.cache_terms.specs.declared.events.Event.TheVariants.{Lookup, Start, Settle, Invalidate}
+use Rattle.cache_terms.specs.declared.events.Outcome.TheVariants as outcome
+use Rattle.cache_terms.specs.Keys.{Covers}
+
+-- the Start of a ticket
+pub record Started : Type 0 where
+  pub who : ℕ
+  pub key : Key
+  pub id : Option (List ℕ)
+  pub since : ℕ
+  pub at : ℕ
+
+-- the first Start of the ticket, where the list begins at this position
+abbrev pub start_from : ℕ → List Event → ℕ → Option Started
+start_from at [] t = None
+start_from at (Start who ticket key id now ∷ rest) t = if ticket == t then Some (record { who = who; key = key; id = id; since = now; at = at }) else start_from (at + 1) rest t
+start_from at (Lookup who key id now hit ∷ rest) t = start_from (at + 1) rest t
+start_from at (Settle who ticket got out ∷ rest) t = start_from (at + 1) rest t
+start_from at (Invalidate who target count ∷ rest) t = start_from (at + 1) rest t
+
+-- the Start of the ticket
+abbrev pub start_of : List Event → ℕ → Option Started
+start_of J t = start_from 0 J t
+
+abbrev pub is_start : Event → Bool
+is_start (Start who ticket key id now) = true
+is_start (Lookup who key id now hit) = false
+is_start (Settle who ticket got out) = false
+is_start (Invalidate who target count) = false
+
+-- the number of Starts, which is the next ticket
+abbrev pub starts : List Event → ℕ
+starts J = count_by is_start J
+
+abbrev pub settles : ℕ → Event → Bool
+settles t (Settle who ticket got out) = ticket == t
+settles t (Start who ticket key id now) = false
+settles t (Lookup who key id now hit) = false
+settles t (Invalidate who target count) = false
+
+-- the ticket has a Start and no Settle
+pub record IsOpen (J : List Event) (t : ℕ) (s : Started) : Type 0 where
+  pub started : start_of J t ≡ Some s
+  pub unsettled : list_any (settles t) J ≡ false
+
+-- a Start whose ticket J does not settle
+abbrev pub is_pending : List Event → Event → Bool
+is_pending J (Start who ticket key id now) = not (list_any (settles ticket) J)
+is_pending J (Lookup who key id now hit) = false
+is_pending J (Settle who ticket got out) = false
+is_pending J (Invalidate who target count) = false
+
+-- the number of open tickets
+abbrev pub reserved : List Event → ℕ
+reserved J = count_by (is_pending J) J
+
+abbrev pub size_of : Option Got → ℕ
+size_of None = 0
+size_of (Some got) = got.size
+
+abbrev pub stored_size : Event → ℕ
+stored_size (Settle who ticket got outcome.Stored) = size_of got
+stored_size (Settle who ticket got out) = 0
+stored_size (Start who ticket key id now) = 0
+stored_size (Lookup who key id now hit) = 0
+stored_size (Invalidate who target count) = 0
+
+-- the sizes of the Stored settles
+abbrev pub bytes : List Event → ℕ
+bytes J = sum_by stored_size J
+
+-- what a Stored settle keeps. The scope None is public, and Some id is private to that id
+pub record Kept : Type 0 where
+  pub key : Key
+  pub scope : Option (List ℕ)
+  pub since : ℕ
+  pub verdict : Verdict
+  pub tags : Tags
+  pub value : Option (List ℕ)
+
+abbrev pub kept_by : Got → Started → Kept
+kept_by got s = record {
+  key = s.key;
+  scope = if got.verdict.private then s.id else None;
+  since = s.since;
+  verdict = got.verdict;
+  tags = got.tags;
+  value = got.value;
+}
+
+-- what the event keeps, where it is a Stored settle
+abbrev pub kept_of : List Event → Event → Option Kept
+kept_of J (Settle who ticket (Some got) outcome.Stored) = option_map (kept_by got) (start_of J ticket)
+kept_of J (Settle who ticket got out) = None
+kept_of J (Start who ticket key id now) = None
+kept_of J (Lookup who key id now hit) = None
+kept_of J (Invalidate who target count) = None
+
+-- what is kept at a position
+abbrev pub kept_at : List Event → ℕ → Option Kept
+kept_at J q = option_and_then (kept_of J) (slice_get J q)
+
+-- the event is an Invalidate that covers the key and tags
+abbrev pub IsCover : Event → Key → Tags → Type 0
+IsCover (Invalidate who target count) key tags = Covers target key tags
+IsCover (Lookup who other id now hit) key tags = ⊥
+IsCover (Start who ticket other id now) key tags = ⊥
+IsCover (Settle who ticket got out) key tags = ⊥
+
+-- what stands at p is an Invalidate that covers the key and tags
+abbrev pub CoveredAt : List Event → Key → Tags → ℕ → Type 0
+CoveredAt J key tags p = IsSomeAnd (slice_get J p) (λ e. IsCover e key tags)
+
+-- the greatest number with the property, or none where no number has it
+abbrev pub IsLast : (ℕ → Type 0) → Option ℕ → Type 0
+IsLast P None = (p : ℕ) → P p → ⊥
+IsLast P (Some q) = P q × ((p : ℕ) → q < p → P p → ⊥)
+
+-- the position is above i, and what stands there covers the key and tags
+abbrev pub CoversAfter : List Event → ℕ → Key → Tags → ℕ → Type 0
+CoversAfter J i key tags p = (i < p) × CoveredAt J key tags p
+
+-- the last position above i that covers the key and tags, or none
+abbrev pub IsLastCover : List Event → ℕ → Key → Tags → Option ℕ → Type 0
+IsLastCover J i key tags cover = IsLast (CoversAfter J i key tags) cover
+
+-- a piece of this key and scope is kept at q
+abbrev pub IsKeptFor : List Event → Key → Option (List ℕ) → ℕ → Type 0
+IsKeptFor J key scope q = IsSomeAnd (kept_at J q) (λ k. (k.key ≡ key) × (k.scope ≡ scope))
+
+-- q keeps k, nothing later has its key and scope, and nothing later covers it
+pub record IsHeld (J : List Event) (q : ℕ) (k : Kept) : Type 0 where
+  pub kept : kept_at J q ≡ Some k
+  pub last : (p : ℕ) (m : Kept) → q < p → kept_at J p ≡ Some m → m.key ≡ k.key → m.scope ≡ k.scope → ⊥
+  pub uncovered : IsLastCover J q k.key k.tags None
+
+-- the milliseconds for which it is good, and for which it has been kept
+abbrev pub good_for : Kept → ℕ
+good_for k = 1000 * (k.verdict.lifetime - k.verdict.age)
+
+pub record IsFresh (k : Kept) (now : ℕ) : Type 0 where
+  pub begun : k.since ≤ now
+  pub good : now - k.since < good_for k
+
+abbrev pub remaining : Kept → ℕ → ℕ
+remaining k now = good_for k - (now - k.since)
+
+-- what is kept at the position is fresh
+abbrev pub IsGoodAt : List Event → ℕ → ℕ → Type 0
+IsGoodAt J now q = IsSomeAnd (kept_at J q) (λ k. IsFresh k now)
+
+-- what is held for the key in the scope and is fresh stands at q
+pub record Serves (J : List Event) (key : Key) (scope : Option (List ℕ)) (now q : ℕ) : Type 0 where
+  pub kept : Kept
+  pub held : IsHeld J q kept
+  pub key_is : kept.key ≡ key
+  pub scope_is : kept.scope ≡ scope
+  pub fresh : IsFresh kept now
+
+abbrev pub NoneServes : List Event → Key → Option (List ℕ) → ℕ → Type 0
+NoneServes J key scope now = (q : ℕ) → Serves J key scope now q → ⊥
+
+-- what is chosen in one scope
+abbrev pub IsServed : List Event → Key → Option (List ℕ) → ℕ → Option ℕ → Type 0
+IsServed J key scope now None = NoneServes J key scope now
+IsServed J key scope now (Some q) = Serves J key scope now q
+
+-- the caller's own piece, else the public one, else none
+abbrev pub IsChoice : List Event → Key → Option (List ℕ) → ℕ → Option ℕ → Type 0
+IsChoice J key None now hit = IsServed J key None now hit
+IsChoice J key (Some id) now hit = IsSomeAnd hit (Serves J key (Some id) now) ⊎ (NoneServes J key (Some id) now × IsServed J key None now hit)
+
+-- what is kept at each position has its value, and a lifetime in range
+pub record IsSound (J : List Event) : Type 0 where
+  pub lifetime : (q : ℕ) (k : Kept) → kept_at J q ≡ Some k → k.verdict.lifetime ≤ 2147483648
+  pub value : (q : ℕ) (k : Kept) → kept_at J q ≡ Some k → is_some k.value ≡ true
+
+-- what is held at q is covered by the target
+abbrev pub IsHeldUnder : List Event → Target → ℕ → Type 0
+IsHeldUnder J target q = IsSomeAnd (kept_at J q) (λ k. IsHeld J q k × Covers target k.key k.tags)
+
+-- of the numbers below n, c have the property
+abbrev pub IsCount : (ℕ → Type 0) → ℕ → ℕ → Type 0
+IsCount P zero c = c ≡ 0
+IsCount P (suc n) c = (P n × ((d : ℕ) × IsCount P n d × (c ≡ d + 1))) ⊎ ((P n → ⊥) × IsCount P n c)
