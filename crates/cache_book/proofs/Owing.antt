@@ -1,13 +1,14 @@
 -- A permit in hand may be settled until it is spent.
-use Rattle.std.proofs.Common.{◌≡◌, ◌≢◌, ℕ, ◌+◌, ◌*◌, ◌≤◌, ◌==◌, Bool, true, false, not, List, [], ◌∷◌, ◌++◌, length, Option, Some, None, refl, ap, sym, ◌∙◌, arith, subst, append_assoc, length-append}
+use Rattle.std.proofs.Common.{◌≡◌, ℕ, ◌+◌, ◌*◌, ◌≤◌, ◌==◌, Bool, true, false, not, List, [], ◌∷◌, ◌++◌, length, Option, Some, None, refl, ap, sym, ◌∙◌, arith, subst, append_assoc, length-append}
 use Rattle.std.specs.Prelude.{if◌then◌else◌, nat_lt, min, ◌^◌}
 use Rattle.std.proofs.lemmas.Bool.Decides.{nat_tests}
 use Rattle.std.proofs.lemmas.Option.{same_Some}
 use Rattle.std.specs.Prelude.{◌-◌, Result, Ok, Err, IfOk}
 use Rattle.cache_terms.specs.declared.keys.Key.{Key}
+use Rattle.cache_terms.specs.declared.keys.Target.{Target}
 use Rattle.cache_terms.specs.declared.events.Limits.{Limits}
 use Rattle.cache_terms.specs.declared.events.Event.{Event}
-use Rattle.cache_terms.specs.declared.events.Event.TheVariants.{Lookup, Start, Settle}
+use Rattle.cache_terms.specs.declared.events.Event.TheVariants.{Lookup, Start, Settle, Invalidate}
 use Rattle.cache_terms.specs.declared.events.Got.{Got}
 use Rattle.cache_terms.specs.declared.events.Outcome.{Outcome}
 use Rattle.cache_terms.specs.declared.events.Mark.{Mark}
@@ -93,25 +94,25 @@ pub bypassed_owed : (s : State) (pass : Pinned) (id : Option (List ℕ)) (m : Ma
 bypassed_owed s pass id m [] may = tt
 bypassed_owed s pass id m (k ∷ asks) may = (may (granted pass id m k), bypassed_owed s pass id m asks may)
 
-may_other : (m : Mark) (limits : Limits) (epoch : ℕ) (J : List Event) (who t : ℕ) (got : Option Got) (out : Outcome) (p : Granted) → m ≢ mark.Ticket t
+may_other : (m : Mark) (limits : Limits) (epoch : ℕ) (J : List Event) (who t : ℕ) (got : Option Got) (out : Outcome) (p : Granted) → (m ≡ mark.Ticket t → p.epoch ≡ epoch → ⊥)
     → MayBy m (record { limits = limits; epoch = epoch; journal = J }) p → MayBy m (record { limits = limits; epoch = epoch; journal = J ++ Settle who t got out ∷ [] }) p
 may_other (mark.Ticket u) limits epoch J who t got out p other may = λ here.
     let o = may here in
-    let differ : (t == u) ≡ false = not_same (t == u) refl in
+    let differ : (t == u) ≡ false = not_same (t == u) refl here in
     record { start = o.start; unsettled = open_before J (Settle who t got out) u o.start differ o.unsettled; who = o.who; key = o.key; named = o.named }
   where
-    not_same : (b : Bool) → (t == u) ≡ b → b ≡ false
-    not_same false is = refl
-    not_same true is = absurd (let same : u ≡ t = grind (arith, nat_tests) in other (ap (λ (n : ℕ). mark.Ticket n) same))
+    not_same : (b : Bool) → (t == u) ≡ b → p.epoch ≡ epoch → b ≡ false
+    not_same false is here = refl
+    not_same true is here = absurd (let same : u ≡ t = grind (arith, nat_tests) in other (ap (λ (n : ℕ). mark.Ticket n) same) here)
 may_other (mark.Over a b) limits epoch J who t got out p other may = tt
 may_other (mark.Full a b c d) limits epoch J who t got out p other may = tt
 may_other (mark.Wide a b) limits epoch J who t got out p other may = tt
 may_other mark.Retired limits epoch J who t got out p other may = tt
 
 -- a Settle keeps each other permit
-pub others_kept : (limits : Limits) (epoch : ℕ) (J : List Event) (who t : ℕ) (got : Option Got) (out : Outcome) (spent : Granted) → spent.mark ≡ mark.Ticket t
+pub others_kept : (limits : Limits) (epoch : ℕ) (J : List Event) (who t : ℕ) (got : Option Got) (out : Outcome) (spent : Granted) → spent.mark ≡ mark.Ticket t → spent.epoch ≡ epoch
     → KeepsOthers (record { limits = limits; epoch = epoch; journal = J }) spent (record { limits = limits; epoch = epoch; journal = J ++ Settle who t got out ∷ [] })
-others_kept limits epoch J who t got out spent is p other may = may_other p.mark limits epoch J who t got out p (λ same. other (same ∙ sym is)) may
+others_kept limits epoch J who t got out spent is of_epoch p other may = may_other p.mark limits epoch J who t got out p (λ same here. other (same ∙ sym is) (here ∙ sym of_epoch)) may
 
 may_earlier : (m : Mark) (limits : Limits) (epoch : ℕ) (J K : List Event) (p : Granted) → p.epoch ≤ epoch → MayBy m (record { limits = limits; epoch = epoch + 1; journal = K }) p
 may_earlier (mark.Ticket u) limits epoch J K p le = λ here. absurd (omega (arith, le, here))
@@ -123,6 +124,10 @@ may_earlier mark.Retired limits epoch J K p le = tt
 -- a turn leaves no permit of an earlier epoch with a condition
 pub earlier_kept : (limits : Limits) (epoch : ℕ) (J K : List Event) → KeepsEarlier (record { limits = limits; epoch = epoch; journal = J }) (record { limits = limits; epoch = epoch + 1; journal = K })
 earlier_kept limits epoch J K p le may = may_earlier p.mark limits epoch J K p le
+
+-- an Invalidate keeps each permit
+pub voided_kept : (limits : Limits) (epoch : ℕ) (J : List Event) (who : ℕ) (target : Target) (count : ℕ) → KeepsEarlier (record { limits = limits; epoch = epoch; journal = J }) (record { limits = limits; epoch = epoch; journal = J ++ Invalidate who target count ∷ [] })
+voided_kept limits epoch J who target count p le may = may_later p.mark limits epoch J (J ++ Invalidate who target count ∷ []) p (λ t s o. open_before J (Invalidate who target count) t s refl o) may
 
 -- the mark of a look that goes past the journal is no ticket
 pub mark_free : (s : State) (pass : Pinned) (n : ℕ) (m : Mark) → Some m ≡ bypass_mark s pass n → (q : State) (p : Granted) → MayBy m q p

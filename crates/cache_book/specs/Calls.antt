@@ -1,41 +1,76 @@
 -- Each call on a book is a step of one machine.
 use Rattle.std.specs.Prelude.{◌≡◌, ℕ, List, [], ◌∷◌, Option}
 use Rattle.cache_terms.specs.declared.keys.Key.{Key}
+use Rattle.cache_terms.specs.declared.keys.Target.{Target}
 use Rattle.cache_book.specs.declared.answers.Settled.{Settled}
+use Rattle.cache_book.specs.declared.answers.Voided as voided
+use Rattle.cache_book.specs.declared.answers.Tally as tally
 use Rattle.cache_book.specs.declared.found.Found.{Found}
 use Rattle.cache_book.specs.declared.permit.Report.{Report}
 use Rattle.cache_model.specs.State.{State, begun}
 use Rattle.cache_book.specs.Step.{Pinned, Granted}
 use Rattle.cache_book.specs.Settling.{Settles}
 use Rattle.cache_book.specs.Looking.{Looks}
+use Rattle.cache_book.specs.Voiding.{Voids, tally_of}
 
 -- a call with what it is given
 pub data Call : Type 0 where
   Begin : (who : ℕ) → Call
   Look : (pass : Pinned) (id : Option (List ℕ)) (asks : List Key) (now : ℕ) → Call
   Settle : (permit : Granted) (report : Report) → Call
+  Invalidate : (who : ℕ) (target : Target) → Call
+  Tally : Call
 
 -- what a call answers
 pub data Answer : Type 0 where
   Begun : (pass : Pinned) → Answer
   Looked : (answers : List Found) → Answer
   Closed : (settled : Settled) → Answer
+  Voided : (answer : voided.Voided) → Answer
+  Told : (answer : tally.Tally) → Answer
   OutOfMemory : Answer
+
+-- the caller, where the call is some caller's
+abbrev pub IsCaller : Call → ℕ → Type 0
+IsCaller (Begin who) k = who ≡ k
+IsCaller (Look pass id asks now) k = pass.who ≡ k
+IsCaller (Settle permit report) k = permit.who ≡ k
+IsCaller (Invalidate who target) k = who ≡ k
+IsCaller Tally k = Unit {0}
 
 -- from old the call may have this answer, and leave new
 abbrev pub Step : State → Call → Answer → State → Type 0
-Step old (Begin who) (Begun pass) new = (new ≡ begun old) × (pass ≡ record { who = who; epoch = new.epoch })
+Step old (Begin who) (Begun started) new = (new ≡ begun old) × (started ≡ record { who = who; epoch = new.epoch })
 Step old (Look pass id asks now) (Looked answers) new = Looks old pass id asks now answers new
 Step old (Look pass id asks now) OutOfMemory new = new ≡ old
 Step old (Settle permit report) (Closed settled) new = Settles old permit report settled new
+Step old (Invalidate who target) (Voided answer) new = Voids old who target answer new
+Step old Tally (Told answer) new = (answer ≡ tally_of old) × (new ≡ old)
+-- no other answer comes
 Step old (Begin who) (Looked answers) new = ⊥
 Step old (Begin who) (Closed settled) new = ⊥
+Step old (Begin who) (Voided answer) new = ⊥
+Step old (Begin who) (Told answer) new = ⊥
 Step old (Begin who) OutOfMemory new = ⊥
-Step old (Look pass id asks now) (Begun other) new = ⊥
+Step old (Look pass id asks now) (Begun started) new = ⊥
 Step old (Look pass id asks now) (Closed settled) new = ⊥
-Step old (Settle permit report) (Begun pass) new = ⊥
+Step old (Look pass id asks now) (Voided answer) new = ⊥
+Step old (Look pass id asks now) (Told answer) new = ⊥
+Step old (Settle permit report) (Begun started) new = ⊥
 Step old (Settle permit report) (Looked answers) new = ⊥
+Step old (Settle permit report) (Voided answer) new = ⊥
+Step old (Settle permit report) (Told answer) new = ⊥
 Step old (Settle permit report) OutOfMemory new = ⊥
+Step old (Invalidate who target) (Begun started) new = ⊥
+Step old (Invalidate who target) (Looked answers) new = ⊥
+Step old (Invalidate who target) (Closed settled) new = ⊥
+Step old (Invalidate who target) (Told answer) new = ⊥
+Step old (Invalidate who target) OutOfMemory new = ⊥
+Step old Tally (Begun started) new = ⊥
+Step old Tally (Looked answers) new = ⊥
+Step old Tally (Closed settled) new = ⊥
+Step old Tally (Voided answer) new = ⊥
+Step old Tally OutOfMemory new = ⊥
 
 -- the calls may have these answers, one after another
 abbrev pub Run : State → List Call → List Answer → State → Type 0

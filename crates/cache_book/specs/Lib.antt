@@ -1,6 +1,13 @@
+pub use Rattle.cache_terms.specs.Keys
+pub use Rattle.cache_terms.specs.Tags
+pub use Rattle.cache_terms.specs.Offers
+pub use Rattle.cache_model.specs.Journal
+pub use Rattle.cache_model.specs.Legal
+pub use Rattle.cache_model.specs.State
 pub mod Step
 pub mod Scan
 pub mod Settling
 pub mod Looking
+pub mod Voiding
 pub mod Calls
 pub mod Owed

@@ -1,5 +1,5 @@
 -- Which permits may be settled after a call.
-use Rattle.std.specs.Prelude.{◌≢◌, ◌≤◌, List, [], ◌∷◌}
+use Rattle.std.specs.Prelude.{◌≡◌, ◌≤◌, List, [], ◌∷◌}
 use Rattle.cache_book.specs.declared.found.Found.{Found}
 use Rattle.cache_book.specs.declared.found.Found.TheVariants as found
 use Rattle.cache_model.specs.State.{State}
@@ -20,9 +20,13 @@ AreOwed s (answer ∷ answers) = IsOwedAnswer s answer × AreOwed s answers
 abbrev pub KeepsPermits : State → State → Type 0
 KeepsPermits old new = (p : Granted) → MaySettle old p → MaySettle new p
 
+-- the permits are two: their marks or their epochs differ
+abbrev pub Differ : Granted → Granted → Type 0
+Differ p q = p.mark ≡ q.mark → p.epoch ≡ q.epoch → ⊥
+
 -- so may each but this one
 abbrev pub KeepsOthers : State → Granted → State → Type 0
-KeepsOthers old spent new = (p : Granted) → p.mark ≢ spent.mark → MaySettle old p → MaySettle new p
+KeepsOthers old spent new = (p : Granted) → Differ p spent → MaySettle old p → MaySettle new p
 
 -- so may each of an epoch that has begun
 abbrev pub KeepsEarlier : State → State → Type 0

@@ -2,8 +2,9 @@ ghost use Rattle.std.specs.Prelude.{◌≡◌, ◌^◌, ◌<◌, ◌≤◌, leng
 
 use crate::ask::{ask_all, bypass_all, bypass_mark};
 use crate::judge::append_settle;
-use crate::scan::bytes_of;
-use crate::{Fill, Found, Pass, Permit, Settled};
+use crate::scan::{bytes_of, reserved_of};
+use crate::voiding::{turning, void};
+use crate::{Fill, Found, Notice, Pass, Permit, Settled, Tally, Turned, Voided};
 use cache_terms::{Event, Key, Limits, Mark, Outcome};
 use flow_base::{Memory, Text};
 use std::alloc::Global;
@@ -35,7 +36,8 @@ impl Book {
     ghost use Rattle.std.specs.Prelude.{OnErr};
     ghost use Rattle.std.specs.Option.{option_copied};
     ghost use Rattle.cache_book.specs.Owed.{AreOwed, KeepsPermits, KeepsOthers, KeepsEarlier};
-    ghost use Rattle.cache_book.specs.Calls.{Step, Begin, Begun, Look, Looked, OutOfMemory, Settle, Closed};
+    ghost use Rattle.cache_book.specs.Calls.{Step, Begin, Begun, Look, Looked, OutOfMemory, Settle, Closed, Invalidate, Told};
+    ghost use Rattle.cache_book.specs.Calls as machine;
     ghost use Rattle.cache_book.specs.Settling.{MaySettle, IsInRange};
     ghost use Rattle.cache_model.specs.Legal.{IsLegal};
 
@@ -121,6 +123,57 @@ impl Book {
         match bypass_mark(self.epoch, self.limits, &self.events, *pass, asks.len()) {
             Some(mark) => bypass_all(*self.events.allocator(), *pass, id, mark, asks),
             None => ask_all(&mut self.events, self.limits, *pass, id, now, asks),
+        }
+    }
+
+    /// Appends an invalidation, and counts the held pieces that it covers. It is never refused: where the journal
+    /// has no room for it the epoch turns first, and in the last epoch nothing is held. Takes no memory.
+    pub fn invalidate(&mut self, who: u32, notice: Notice) -> Voided
+        ensures keeps { KeepsEarlier self.old self.new }
+        ensures step { Step self.old (Invalidate who notice) (machine.Voided result) self.new }
+    {
+        let target = notice.into_target();
+        match turning(self.epoch, self.limits, &self.events) {
+            Turned::No => void(
+                &mut self.events,
+                self.limits,
+                self.epoch,
+                who,
+                target,
+                Turned::No,
+            ),
+            Turned::Full {
+                length,
+                reserved,
+                limit,
+            } => {
+                self.epoch += 1;
+                self.events.clear();
+                let full = Turned::Full {
+                    length,
+                    reserved,
+                    limit,
+                };
+                void(&mut self.events, self.limits, self.epoch, who, target, full)
+            }
+            Turned::Retired => Voided {
+                epoch: self.epoch,
+                position: 0,
+                count: 0,
+                turned: Turned::Retired,
+            },
+        }
+    }
+
+    /// How much of the journal is used. Takes no memory.
+    pub fn tally(&self) -> Tally
+        ensures { Step self.now machine.Tally (Told result) self.now }
+    {
+        Tally {
+            epoch: self.epoch,
+            events: self.events.len() as u64,
+            bytes: bytes_of(&self.events),
+            pending: reserved_of(&self.events),
         }
     }
 

@@ -1,14 +1,14 @@
 ghost use Rattle.std.specs.Prelude.{◌≡◌, ◌+◌, ◌≤◌, length, [], ◌∷◌, ◌++◌, IsSome, Some, vec_capacity};
-ghost use Rattle.cache_terms.specs.declared.events.Event.TheVariants.{Settle, Invalidate};
+ghost use Rattle.cache_terms.specs.declared.events.Event.TheVariants.{Settle};
 ghost use Rattle.cache_model.specs.State.{IsWithinRanges};
-ghost use Rattle.cache_model.specs.Journal.{bytes, Started, start_of, reserved, IsHeldUnder, IsCount};
+ghost use Rattle.cache_model.specs.Journal.{bytes, Started, start_of};
 ghost use Rattle.cache_model.specs.Legal.{IsDue, IsLegal};
 ghost use Rattle.cache_book.specs.Settling.{got_of, got_by, value_kept, IsOwedTo, IsInRange};
 ghost use Rattle.cache_book.specs.Scan.{start_shown};
 
 use crate::Report;
-use crate::scan::{StartRef, bytes_of, count_held, last_cover, start_of};
-use cache_terms::{Event, Got, Limits, Offer, Outcome, Target, why};
+use crate::scan::{StartRef, bytes_of, last_cover, start_of};
+use cache_terms::{Event, Got, Limits, Offer, Outcome, why};
 
 /// The outcome that is due to an offer.
 fn outcome_of(events: &[Event], limits: Limits, start: StartRef, offer: &Offer) -> Outcome
@@ -102,20 +102,4 @@ pub fn append_settle(
     };
     events.push(settle).unwrap();
     outcome
-}
-
-/// Appends an Invalidate, which needs the room for one event.
-pub fn append_void(events: &mut Vec<Event>, limits: Limits, who: u32, target: Target) -> u64
-    requires legal { IsLegal limits events.old.items }
-    requires free { length events.old.items + reserved events.old.items + 1 ≤ limits.events }
-    requires room { limits.events ≤ vec_capacity events.old }
-    ensures after { events.new.items ≡ events.old.items ++ Invalidate who target result ∷ [] }
-    ensures count { IsCount (IsHeldUnder events.old.items target) (length events.old.items) result }
-    ensures legal { IsLegal limits events.new.items }
-    ensures room { limits.events ≤ vec_capacity events.new }
-{
-    let count = count_held(events, &target);
-    let void = Event::Invalidate { who, target, count };
-    events.push(void).unwrap();
-    count
 }

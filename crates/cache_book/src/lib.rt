@@ -10,12 +10,15 @@ mod ask;
 mod book;
 mod found;
 mod judge;
+mod notice;
 mod pass;
 mod permit;
 mod scan;
+mod voiding;
 
-pub use answers::Settled;
+pub use answers::{Settled, Tally, Turned, Voided};
 pub use book::Book;
 pub use found::Found;
+pub use notice::Notice;
 pub use pass::Pass;
 pub use permit::{Fill, Permit, Report};

@@ -14,4 +14,4 @@ pub returns-clause-keeps : goal.returns-clause-keeps
 returns-clause-keeps c =
     rw (← c.self.view_is, ← c.permit.view_is, c.append_settle-outcome.ensures.after)
     (others_kept c.self.inside.limits c.self.inside.epoch c.self.inside.events.items c.permit.inside.who c.in-Ticket.ticket (got_by c.args.fill.report c.append_settle-outcome.result) c.append_settle-outcome.result
-    (record { who = c.permit.inside.who; epoch = c.permit.inside.epoch; mark = c.permit.inside.mark; key = c.permit.inside.key; named = c.permit.inside.named }) c.in-Ticket.is)
+    (record { who = c.permit.inside.who; epoch = c.permit.inside.epoch; mark = c.permit.inside.mark; key = c.permit.inside.key; named = c.permit.inside.named }) c.in-Ticket.is c.if-epoch-self.false)

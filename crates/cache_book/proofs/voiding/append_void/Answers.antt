@@ -2,7 +2,7 @@ use Rattle.std.proofs.Common.{arith, ◌≡◌, [], ◌∷◌, ◌++◌}
 use Rattle.std.proofs.lemmas.Grind.{common_steps}
 use Rattle.cache_terms.specs.declared.events.Event.TheVariants.{Invalidate}
 use Rattle.cache_model.proofs.Legality.{voided_legal}
-use Rattle.cache_book.proofs.judge.append_void.Goals as goal
+use Rattle.cache_book.proofs.voiding.append_void.Goals as goal
 
 pub returns-clause-legal : goal.returns-clause-legal
 returns-clause-legal c =
