@@ -1,9 +1,11 @@
 -- Where split_once cuts, a text has its first piece.
-use Rattle.std.proofs.Common.{◌≡◌, ◌≢◌, ℕ, ◌<◌, ◌==◌, List, [], ◌∷◌, length, get_or, Option, Some, None, Bor, arith, ◌∙◌, ap, rules, suc, ◌+◌, length-append}
+use Rattle.std.proofs.Common.{◌≡◌, ◌≢◌, ℕ, ◌<◌, ◌==◌, List, [], ◌∷◌, length, get_or, Option, Some, None, Bor, arith, ◌∙◌, ap, rules, suc, ◌+◌, length-append, length-drop, drop, sym}
+use Rattle.script_lines.specs.Script.{words}
+use Rattle.script_lines.specs.Commands.{word}
 use Rattle.std.specs.Prelude.{MatchOption, All, false}
 use Rattle.std.specs.List.{slice_split}
-use Rattle.std.proofs.lemmas.List.{get_or_default}
-use Rattle.std.proofs.lemmas.List.Splits.{slice_split_none, slice_split_at}
+use Rattle.std.proofs.lemmas.List.{get_or_default, get_or-drop, drop_more}
+use Rattle.std.proofs.lemmas.List.Splits.{slice_split_none, slice_split_at, length-slice_split}
 use Rattle.std.proofs.lemmas.Bool.{ne_eqb}
 use Rattle.std.proofs.lemmas.Str.Pattern.{IsSplitOnceResult, split_parts}
 
@@ -25,3 +27,28 @@ shorter_at c bs (Some x) h low =
     let p = split_parts c bs (Some x) h low in
     let e : length bs ≡ length x.0.now + suc (length x.1.now) = ap length p.0 ∙ length-append x.0.now (c ∷ x.1.now) in
     omega (arith, e)
+
+-- a line has a word
+pub words_some : (line : List ℕ) → 0 < length (words line)
+words_some line = omega (arith, length-slice_split (λ b. b == 32) line)
+
+-- where one word is left, that many and one there are
+pub last_left : (ws rest : List (List ℕ)) (i : ℕ) (w : List ℕ) → rest ≡ drop i ws → rest ≡ w ∷ [] → length ws ≡ i + 1
+last_left ws rest i w here only =
+    let e : length (drop i ws) ≡ 1 = ap length (sym here ∙ only) in
+    omega (arith, e, length-drop i ws)
+
+-- what is left after one word more
+pub more_left : (ws rest after : List (List ℕ)) (i : ℕ) (w : List ℕ) → rest ≡ drop i ws → rest ≡ w ∷ after → after ≡ drop (i + 1) ws
+more_left ws rest after i w here more =
+    let e : length (drop i ws) ≡ suc (length after) = ap length (sym here ∙ more) in
+    let d : drop i ws ≡ get_or ws i [] ∷ drop (i + 1) ws = drop_more ws i [] (omega (arith, e, length-drop i ws)) in
+    let f : w ∷ after ≡ get_or ws i [] ∷ drop (i + 1) ws = sym more ∙ here ∙ d in
+    cc
+
+-- the first word that is left stands at that place
+pub word_left : (ws rest after : List (List ℕ)) (i : ℕ) (w : List ℕ) → rest ≡ drop i ws → rest ≡ w ∷ after → w ≡ word ws i
+word_left ws rest after i w here more =
+    let e : get_or (drop i ws) 0 [] ≡ w = ap (λ (l : List (List ℕ)). get_or l 0 []) (sym here ∙ more) in
+    let z : i + 0 ≡ i = omega arith in
+    sym e ∙ get_or-drop i ws 0 [] ∙ ap (λ (k : ℕ). get_or ws k []) z

@@ -42,10 +42,8 @@ pub fn rest_after(line: &str, count: usize) -> Option<&str>
 {
     let mut rest = line;
     for _passed in 0..count {
-        let (_, Some(after)) = first_word(rest) else {
-            return None;
-        };
-        rest = after;
+        let (_, after) = first_word(rest);
+        rest = after?;
     }
     Some(rest)
 }
