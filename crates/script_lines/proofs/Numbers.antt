@@ -1,9 +1,9 @@
 -- Numbers of a script are what parse reads where the text is short, plain and without a leading zero.
 use Rattle.std.proofs.Common.{◌≡◌, ◌≢◌, ◌⊎◌, inl, inr, ℕ, ◌<◌, ◌≤◌, ◌^◌, List, length, get_or, arith, sym, subst, ◌∙◌, ap}
-use Rattle.std.specs.Prelude.{Result, Ok, Err, true, false, ◌==◌}
+use Rattle.std.specs.Prelude.{Result, Ok, true, false, ◌==◌}
 use Rattle.std.specs.Fmt.{decimal}
 use Rattle.std.specs.Str.Parse.{AllDigits, digits_value, ParsesUnsigned}
-use Rattle.std.proofs.lemmas.Str.Parse.{IsNumeralModel, numerals_by_value, tells_digits, not_in_digits, parse_plain, digits_value_short}
+use Rattle.std.proofs.lemmas.Str.Parse.{IsNumeralModel, numerals_by_value, tells_digits, not_in_digits, parse_plain, parse_gives, digits_value_short}
 use Rattle.std.proofs.lemmas.Fmt.{parse-decimal, digits_decimal, decimal_nonempty, length-decimal-le, first_decimal, decimal_digit, decimal_injective, decimal-digits_value}
 use Rattle.std.proofs.lemmas.Result.{OkIff-at_ok}
 use Rattle.std.proofs.lemmas.Bool.Decides.{eqb_tells}
@@ -65,7 +65,7 @@ pub ticket_joined : (w : List ℕ) (x : Bor (List ℕ) × Bor (List ℕ)) → Is
 ticket_joined w x h e t a b = record { before = x.0.now; after = x.1.now; form = (split_parts 46 w (Some x) h (omega arith)).0; epoch_is = a; ticket_is = b }
 
 -- three digits are read
-pub status_fails : {E : Type 0} (bs : List ℕ) (n : ℕ) (e : E) → ParsesUnsigned 16 10 bs (Err e) → get_or bs 0 0 ≢ 43 → IsStatus bs n → ⊥
-status_fails bs n e h plain is =
+pub status_read : {E : Type 0} (bs : List ℕ) (n : ℕ) (r : Result ℕ E) → ParsesUnsigned 16 10 bs r → IsStatus bs n → r ≡ Ok n
+status_read bs n r h is =
     let short : digits_value 10 bs < 10 ^ 3 = digits_value_short own bs 3 is.digits (omega (arith, is.three)) in
-    parse_plain own 16 bs (Err e) h plain (is.digits, omega (arith, is.three), omega (arith, short))
+    parse_gives own 16 bs r h is.digits (omega (arith, is.three)) (omega (arith, short)) ∙ ap Ok (sym is.value)

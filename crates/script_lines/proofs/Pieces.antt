@@ -1,11 +1,11 @@
 -- Where split_once cuts, a text has its first piece.
 use Rattle.std.proofs.Common.{◌≡◌, ◌≢◌, ℕ, ◌<◌, ◌==◌, List, [], ◌∷◌, length, get_or, Option, Some, None, Bor, arith, ◌∙◌, ap, rules, suc, ◌+◌, length-append, length-drop, drop, sym}
 use Rattle.script_lines.specs.Script.{words}
-use Rattle.script_lines.specs.Commands.{word}
+use Rattle.script_lines.specs.Commands.{word, rest_from}
 use Rattle.std.specs.Prelude.{MatchOption, All, false}
-use Rattle.std.specs.List.{slice_split}
+use Rattle.std.specs.List.{slice_split, join_with_byte}
 use Rattle.std.proofs.lemmas.List.{get_or_default, get_or-drop, drop_more}
-use Rattle.std.proofs.lemmas.List.Splits.{slice_split_none, slice_split_at, length-slice_split}
+use Rattle.std.proofs.lemmas.List.Splits.{slice_split_none, slice_split_at, length-slice_split, join_with_byte-slice_split}
 use Rattle.std.proofs.lemmas.Bool.{ne_eqb}
 use Rattle.std.proofs.lemmas.Str.Pattern.{IsSplitOnceResult, split_parts}
 
@@ -52,3 +52,7 @@ word_left ws rest after i w here more =
     let e : get_or (drop i ws) 0 [] ≡ w = ap (λ (l : List (List ℕ)). get_or l 0 []) (sym here ∙ more) in
     let z : i + 0 ≡ i = omega arith in
     sym e ∙ get_or-drop i ws 0 [] ∙ ap (λ (k : ℕ). get_or ws k []) z
+
+-- the words that are left, joined, are the text that is left
+pub rest_joined : (line rest : List ℕ) (i : ℕ) → words rest ≡ drop i (words line) → rest_from (words line) i ≡ rest
+rest_joined line rest i here = ap (λ (l : List (List ℕ)). join_with_byte 32 l) (sym here) ∙ join_with_byte-slice_split 32 rest

@@ -57,7 +57,10 @@ key_same line at a b h k =
     ∙ ap (λ (s : List ℕ). key_of b.sub b.type_name b.rep s) (h.sel.same ∙ sym k.sel.same)
 
 tags_same : (w : List ℕ) (a b : Tags) → IsTagWord w a → IsTagWord w b → a ≡ b
-tags_same w a b h k = h.1 ∙ sym k.1
+tags_same w a b (inl h) (inl k) = h.1 ∙ sym k.1
+tags_same w a b (inl h) (inr k) = absurd (k.0 h.0)
+tags_same w a b (inr h) (inl k) = absurd (h.0 k.0)
+tags_same w a b (inr h) (inr k) = h.2 ∙ sym k.2
 
 kinds_differ : (w : List ℕ) → w ≡ codes "type" → w ≡ codes "tag" → ⊥
 kinds_differ w h k = let e : 121 ≡ 97 = ap (λ (l : List ℕ). get_or l 1 0) (sym h ∙ k) in absurd (omega (arith, e))

@@ -6,10 +6,10 @@ use Rattle.cache_terms.specs.declared.keys.Key.{Key}
 use Rattle.cache_terms.specs.declared.keys.Target.{Target}
 use Rattle.cache_terms.specs.declared.keys.Target.TheVariants as target
 use Rattle.cache_terms.specs.declared.tags.Tags.{Tags}
-use Rattle.cache_terms.specs.declared.tags.Tags.TheVariants.{Known}
+use Rattle.cache_terms.specs.Tags.{tags_of}
 use Rattle.script_lines.specs.declared.commands.Command.{Command}
 use Rattle.script_lines.specs.declared.commands.Command.TheVariants as command
-use Rattle.script_lines.specs.Script.{IsNumber}
+use Rattle.script_lines.specs.Script.{parts, IsNumber}
 
 -- the word at a place, from 0
 abbrev pub word : List (List ℕ) → ℕ → List ℕ
@@ -70,7 +70,7 @@ IsScope w true = w ≡ codes "private"
 
 -- none for `-`, else the texts between the commas
 abbrev pub IsTagWord : List ℕ → Tags → Type 0
-IsTagWord w tags = (w ≡ codes "-") × (tags ≡ Known [])
+IsTagWord w tags = ((w ≡ codes "-") × (tags ≡ tags_of [])) ⊎ ((w ≢ codes "-") × (0 < length w) × (tags ≡ tags_of (parts w)))
 
 -- the words from a place on are the texts of a key
 pub record IsKey (line : List (List ℕ)) (at : ℕ) (key : Key) : Type 0 where

@@ -3,26 +3,29 @@ use Rattle.std.specs.Prelude.{◌≡◌, ℕ, ◌^◌, ◌<◌, ◌==◌, List, 
 use Rattle.std.specs.List.{slice_split}
 use Rattle.std.specs.Fmt.{decimal}
 
+-- the texts between the separators, one more than these
+abbrev pub pieces : ℕ → List ℕ → List (List ℕ)
+pieces separator text = slice_split (λ b. b == separator) text
+
 -- the texts between the line feeds. What follows the last one is empty where the last line has its own
 abbrev pub lines : List ℕ → List (List ℕ)
-lines script = slice_split (λ b. b == 10) script
+lines script = pieces 10 script
 
 -- the texts between the spaces
 abbrev pub words : List ℕ → List (List ℕ)
-words line = slice_split (λ b. b == 32) line
+words line = pieces 32 line
 
 -- the texts between the commas
 abbrev pub parts : List ℕ → List (List ℕ)
-parts word = slice_split (λ b. b == 44) word
+parts word = pieces 44 word
 
--- the lines, and the words, of what follows the first
+-- the pieces of what follows the first, if something does
+abbrev pub pieces_after : ℕ → Option (List ℕ) → List (List ℕ)
+pieces_after separator None = []
+pieces_after separator (Some rest) = pieces separator rest
+
 abbrev pub lines_after : Option (List ℕ) → List (List ℕ)
-lines_after None = []
-lines_after (Some rest) = lines rest
-
-abbrev pub words_after : Option (List ℕ) → List (List ℕ)
-words_after None = []
-words_after (Some rest) = words rest
+lines_after rest = pieces_after 10 rest
 
 -- 1 to 15 digits without a leading zero
 pub record IsNumber (word : List ℕ) (n : ℕ) : Type 0 where

@@ -4,8 +4,8 @@ ghost use Rattle.cache_terms.specs.declared.tags.Tags.{Tags};
 ghost use Rattle.script_lines.specs.Script.{words, IsNumber};
 ghost use Rattle.script_lines.specs.Commands.{IsCaller, IsTicket, IsSpan, IsStatus, IsScope, IsOptional, IsText, IsTagWord, IsKey};
 
-use crate::lines::word_at;
-use cache_terms::{Key, TagList, Tags};
+use crate::lines::{parts_of, word_at};
+use cache_terms::{Key, Tags};
 use flow_base::{Memory, Text};
 use std::alloc::Global;
 
@@ -115,14 +115,17 @@ pub fn text_of(alloc: Global, word: &str) -> Result<Option<Text>, Memory>
     Ok(Some(Text::of(alloc, word)?))
 }
 
-/// The tags that the word is.
+/// The tags that the word is, which are joined by commas, or none for `-`.
 pub fn read_tags(alloc: Global, word: &str) -> Result<Option<Tags>, Memory>
     ensures { IfOk result (λ o. MatchOption o ((tags : Tags) → IsTagWord word.now tags → ⊥) (λ tags. IsTagWord word.now tags)) }
 {
     if word == "-" {
-        return Ok(Some(Tags::Known(TagList::new(alloc))));
+        return Ok(Some(Tags::of(alloc, Vec::new(alloc))?));
     }
-    Ok(None)
+    if word.is_empty() {
+        return Ok(None);
+    }
+    Ok(Some(Tags::of(alloc, parts_of(alloc, word)?)?))
 }
 
 /// The key that the words from the fifth on are.

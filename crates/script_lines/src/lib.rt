@@ -18,3 +18,6 @@ pub use replies::{
     Cause, bypass_line, epoch_line, hit_line, miss_line, refused_line, settled_line, tally_line,
     voided_line,
 };
+
+#[cfg(test)]
+mod tests;
