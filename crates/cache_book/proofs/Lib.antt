@@ -2,3 +2,5 @@ pub mod Spending
 pub mod Asking
 pub mod Asks
 pub mod Owing
+pub mod Telling
+pub mod Determined

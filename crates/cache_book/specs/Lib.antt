@@ -4,6 +4,8 @@ pub use Rattle.cache_terms.specs.Offers
 pub use Rattle.cache_model.specs.Journal
 pub use Rattle.cache_model.specs.Legal
 pub use Rattle.cache_model.specs.State
+pub use Rattle.cache_model.specs.Story
+pub use Rattle.cache_model.specs.Masked
 pub mod Step
 pub mod Scan
 pub mod Settling
@@ -11,3 +13,4 @@ pub mod Looking
 pub mod Voiding
 pub mod Calls
 pub mod Owed
+pub mod Told

@@ -1,7 +1,8 @@
 ghost use Rattle.std.specs.Prelude.{◌≡◌, ◌↔◌, ◌^◌, ◌<◌, ◌≤◌, length, slice_get, IsTrue, IfSome, MatchOption, Option, Some, None};
 ghost use Rattle.std.specs.List.{list_any};
-ghost use Rattle.cache_model.specs.Journal.{bytes, stored_size, settles, is_start, starts, reserved, is_pending, start_of, kept_at, CoveredAt, CoversAfter, IsLastCover, IsLast, IsKeptFor, IsFresh, IsServed, IsChoice, IsSound, IsGoodAt, IsHeldUnder, IsCount, remaining};
-ghost use Rattle.cache_book.specs.Scan.{start_seen, kept_seen, kept_shown};
+ghost use Rattle.cache_model.specs.Journal.{bytes, stored_size, settles, is_start, starts, reserved, is_pending, start_of, kept_at, CoveredAt, CoversAfter, IsLastCover, IsLast, IsFresh, IsServed, IsChoice, IsHeldUnder, IsCount, remaining};
+ghost use Rattle.cache_model.specs.Soundness.{IsSound};
+ghost use Rattle.cache_book.specs.Scan.{start_seen, kept_seen, kept_shown, IsKeptFor, IsGoodAt};
 ghost use Rattle.std.specs.Option.{option_copied};
 
 use cache_terms::{Event, Got, Key, Outcome, Tags, Target, covers};

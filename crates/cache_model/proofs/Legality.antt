@@ -54,3 +54,7 @@ voided_legal limits J who target count legal counted room =
     let e : Event = Invalidate who target count in
     let next : IsNext limits J e = record { fits = counted; room = omega (arith, room, reserved_push J e, length-append J (e ∷ [])) } in
     record { each = each_push limits J e legal.each next; started = started_push J e (λ w k i n h. absurd (cc h)) legal.started }
+
+-- the empty journal is legal
+pub empty_legal : (limits : Limits) → IsLegal limits []
+empty_legal limits = record { each = λ p e h. absurd (cc h); started = λ p who key id now h. absurd (cc h) }

@@ -3,3 +3,7 @@ pub mod Growth
 pub mod Sound
 pub mod Legality
 pub mod Tickets
+pub mod StoryLaws
+pub mod Unique
+pub mod Choosing
+pub mod Quiet

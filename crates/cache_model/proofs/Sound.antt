@@ -14,7 +14,8 @@ use Rattle.cache_terms.specs.declared.events.Got.{Got}
 use Rattle.cache_terms.specs.declared.events.Outcome.TheVariants as outcome
 use Rattle.cache_terms.specs.declared.reasons.Why.{Why}
 use Rattle.cache_terms.specs.Offers.{why_of}
-use Rattle.cache_model.specs.Journal.{bytes, stored_size, Started, start_of, IsSound, Kept, kept_of, kept_at, kept_by}
+use Rattle.cache_model.specs.Journal.{bytes, stored_size, Started, start_of, Kept, kept_of, kept_at, kept_by}
+use Rattle.cache_model.specs.Soundness.{IsSound}
 use Rattle.cache_model.specs.Legal.{EachFits, Fits, IsDueBy, due_after}
 
 -- what is stored found its room

@@ -66,7 +66,7 @@ no_start limits J each = from (start_of J (starts J)) refl
     from None is = refl
     from (Some s) is = absurd (omega (arith, ticket_below limits J each (starts J) s is))
 
-any_place : {X : Type 0} (p : X → Bool) (xs : List X) → list_any p xs ≡ true → (i : ℕ) × ((x : X) × (slice_get xs i ≡ Some x) × (p x ≡ true))
+pub any_place : {X : Type 0} (p : X → Bool) (xs : List X) → list_any p xs ≡ true → (i : ℕ) × ((x : X) × (slice_get xs i ≡ Some x) × (p x ≡ true))
 any_place p [] h = absurd cc
 any_place {X = X} p (x ∷ xs) h = from (p x) refl h (any_place p xs)
   where

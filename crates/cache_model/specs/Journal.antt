@@ -1,5 +1,6 @@
--- What a journal says: which tickets are open, what is held, and what is chosen.
-use Rattle.std.specs.Prelude.{◌≡◌, ◌⊎◌, ℕ, ◌+◌, ◌-◌, ◌*◌, ◌<◌, ◌≤◌, Bool, true, false, not, ◌==◌, if◌then◌else◌, List, [], ◌∷◌, sum_by, count_by, slice_get, IsSomeAnd, is_some, Option, Some, None}
+-- What a journal says. A journal is a list of events, and a position is an index in it. It reads from top to bottom:
+-- tickets, pieces, covers, what is held, what is fresh, and the choice that answers a lookup.
+use Rattle.std.specs.Prelude.{◌≡◌, ◌⊎◌, ℕ, ◌+◌, ◌-◌, ◌*◌, ◌<◌, ◌≤◌, Bool, true, false, not, ◌==◌, if◌then◌else◌, List, [], ◌∷◌, sum_by, count_by, slice_get, IsSomeAnd, Option, Some, None}
 use Rattle.std.proofs.Common.{zero, suc}
 use Rattle.std.specs.List.{list_any}
 use Rattle.std.specs.Option.{option_map, option_and_then}
@@ -13,7 +14,9 @@ use Rattle.cache_terms.specs.declared.events.Event.TheVariants.{Lookup, Start, S
 use Rattle.cache_terms.specs.declared.events.Outcome.TheVariants as outcome
 use Rattle.cache_terms.specs.Keys.{Covers}
 
--- the Start of a ticket
+-- TICKETS. A lookup that finds nothing starts a fetch, and the fetch has a ticket. Settling it ends the ticket.
+
+-- the Start of a ticket: who asked for what, under which id, at which moment, and where it stands
 pub record Started : Type 0 where
   pub who : ℕ
   pub key : Key
@@ -43,6 +46,7 @@ is_start (Invalidate who target count) = false
 abbrev pub starts : List Event → ℕ
 starts J = count_by is_start J
 
+-- the event settles the ticket
 abbrev pub settles : ℕ → Event → Bool
 settles t (Settle who ticket got out) = ticket == t
 settles t (Start who ticket key id now) = false
@@ -61,9 +65,11 @@ is_pending J (Lookup who key id now hit) = false
 is_pending J (Settle who ticket got out) = false
 is_pending J (Invalidate who target count) = false
 
--- the number of open tickets
+-- the number of open tickets. Each has room reserved for the event that settles it
 abbrev pub reserved : List Event → ℕ
 reserved J = count_by (is_pending J) J
+
+-- PIECES. A fetch that was settled as Stored is kept (RFC 9111, section 3: storing responses).
 
 abbrev pub size_of : Option Got → ℕ
 size_of None = 0
@@ -80,7 +86,8 @@ stored_size (Invalidate who target count) = 0
 abbrev pub bytes : List Event → ℕ
 bytes J = sum_by stored_size J
 
--- what a Stored settle keeps. The scope None is public, and Some id is private to that id
+-- what a Stored settle keeps, by its ticket's Start. The scope None is public, and Some id is private to that id
+-- (RFC 9111, section 5.2.2.7: private)
 pub record Kept : Type 0 where
   pub key : Key
   pub scope : Option (List ℕ)
@@ -111,6 +118,9 @@ kept_of J (Invalidate who target count) = None
 abbrev pub kept_at : List Event → ℕ → Option Kept
 kept_at J q = option_and_then (kept_of J) (slice_get J q)
 
+-- COVERS. An invalidation covers what is of its subgraph, type or tag (in the manner of RFC 9111, section 4.4:
+-- invalidating stored responses).
+
 -- the event is an Invalidate that covers the key and tags
 abbrev pub IsCover : Event → Key → Tags → Type 0
 IsCover (Invalidate who target count) key tags = Covers target key tags
@@ -122,30 +132,34 @@ IsCover (Settle who ticket got out) key tags = ⊥
 abbrev pub CoveredAt : List Event → Key → Tags → ℕ → Type 0
 CoveredAt J key tags p = IsSomeAnd (slice_get J p) (λ e. IsCover e key tags)
 
+-- the position is above i, and what stands there covers the key and tags
+abbrev pub CoversAfter : List Event → ℕ → Key → Tags → ℕ → Type 0
+CoversAfter J i key tags p = (i < p) × CoveredAt J key tags p
+
 -- the greatest number with the property, or none where no number has it
 abbrev pub IsLast : (ℕ → Type 0) → Option ℕ → Type 0
 IsLast P None = (p : ℕ) → P p → ⊥
 IsLast P (Some q) = P q × ((p : ℕ) → q < p → P p → ⊥)
 
--- the position is above i, and what stands there covers the key and tags
-abbrev pub CoversAfter : List Event → ℕ → Key → Tags → ℕ → Type 0
-CoversAfter J i key tags p = (i < p) × CoveredAt J key tags p
-
 -- the last position above i that covers the key and tags, or none
 abbrev pub IsLastCover : List Event → ℕ → Key → Tags → Option ℕ → Type 0
 IsLastCover J i key tags cover = IsLast (CoversAfter J i key tags) cover
 
--- a piece of this key and scope is kept at q
-abbrev pub IsKeptFor : List Event → Key → Option (List ℕ) → ℕ → Type 0
-IsKeptFor J key scope q = IsSomeAnd (kept_at J q) (λ k. (k.key ≡ key) × (k.scope ≡ scope))
-
--- q keeps k, nothing later has its key and scope, and nothing later covers it
+-- HELD. q keeps k, nothing later is kept for its key and scope, and nothing later covers it (RFC 9111, section 4: of
+-- several stored responses the most recent one).
 pub record IsHeld (J : List Event) (q : ℕ) (k : Kept) : Type 0 where
   pub kept : kept_at J q ≡ Some k
   pub last : (p : ℕ) (m : Kept) → q < p → kept_at J p ≡ Some m → m.key ≡ k.key → m.scope ≡ k.scope → ⊥
   pub uncovered : IsLastCover J q k.key k.tags None
 
--- the milliseconds for which it is good, and for which it has been kept
+-- what is held at q is covered by the target
+abbrev pub IsHeldUnder : List Event → Target → ℕ → Type 0
+IsHeldUnder J target q = IsSomeAnd (kept_at J q) (λ k. IsHeld J q k × Covers target k.key k.tags)
+
+-- FRESH. The lifetime is greater than the age that it came with and the time since it was asked for together (RFC 9111,
+-- section 4.2: freshness, and 4.2.3: age). Lifetime and age are seconds, moments are milliseconds.
+
+-- the milliseconds for which it is good from the moment when it was asked for
 abbrev pub good_for : Kept → ℕ
 good_for k = 1000 * (k.verdict.lifetime - k.verdict.age)
 
@@ -153,12 +167,11 @@ pub record IsFresh (k : Kept) (now : ℕ) : Type 0 where
   pub begun : k.since ≤ now
   pub good : now - k.since < good_for k
 
+-- the milliseconds that are left
 abbrev pub remaining : Kept → ℕ → ℕ
 remaining k now = good_for k - (now - k.since)
 
--- what is kept at the position is fresh
-abbrev pub IsGoodAt : List Event → ℕ → ℕ → Type 0
-IsGoodAt J now q = IsSomeAnd (kept_at J q) (λ k. IsFresh k now)
+-- CHOICE. What answers a lookup (RFC 9111, section 4: constructing responses from caches).
 
 -- what is held for the key in the scope and is fresh stands at q
 pub record Serves (J : List Event) (key : Key) (scope : Option (List ℕ)) (now q : ℕ) : Type 0 where
@@ -171,7 +184,7 @@ pub record Serves (J : List Event) (key : Key) (scope : Option (List ℕ)) (now 
 abbrev pub NoneServes : List Event → Key → Option (List ℕ) → ℕ → Type 0
 NoneServes J key scope now = (q : ℕ) → Serves J key scope now q → ⊥
 
--- what is chosen in one scope
+-- what serves in one scope, or none
 abbrev pub IsServed : List Event → Key → Option (List ℕ) → ℕ → Option ℕ → Type 0
 IsServed J key scope now None = NoneServes J key scope now
 IsServed J key scope now (Some q) = Serves J key scope now q
@@ -180,15 +193,6 @@ IsServed J key scope now (Some q) = Serves J key scope now q
 abbrev pub IsChoice : List Event → Key → Option (List ℕ) → ℕ → Option ℕ → Type 0
 IsChoice J key None now hit = IsServed J key None now hit
 IsChoice J key (Some id) now hit = IsSomeAnd hit (Serves J key (Some id) now) ⊎ (NoneServes J key (Some id) now × IsServed J key None now hit)
-
--- what is kept at each position has its value, and a lifetime in range
-pub record IsSound (J : List Event) : Type 0 where
-  pub lifetime : (q : ℕ) (k : Kept) → kept_at J q ≡ Some k → k.verdict.lifetime ≤ 2147483648
-  pub value : (q : ℕ) (k : Kept) → kept_at J q ≡ Some k → is_some k.value ≡ true
-
--- what is held at q is covered by the target
-abbrev pub IsHeldUnder : List Event → Target → ℕ → Type 0
-IsHeldUnder J target q = IsSomeAnd (kept_at J q) (λ k. IsHeld J q k × Covers target k.key k.tags)
 
 -- of the numbers below n, c have the property
 abbrev pub IsCount : (ℕ → Type 0) → ℕ → ℕ → Type 0

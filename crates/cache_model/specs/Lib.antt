@@ -4,3 +4,6 @@ pub use Rattle.cache_terms.specs.Offers
 pub mod Journal
 pub mod Legal
 pub mod State
+pub mod Story
+pub mod Masked
+pub mod Soundness

@@ -1,8 +1,9 @@
--- What a book is at a moment, and how a new epoch begins.
+-- What a book is at a moment, and when its epoch turns.
 use Rattle.std.specs.Prelude.{ℕ, ◌+◌, ◌-◌, ◌*◌, ◌^◌, ◌≤◌, Bool, nat_le, nat_eq, ◌&&◌, ◌||◌, not, if◌then◌else◌, List, [], length}
 use Rattle.cache_terms.specs.declared.events.Limits.{Limits}
 use Rattle.cache_terms.specs.declared.events.Event.{Event}
 use Rattle.cache_model.specs.Journal.{bytes}
+use Rattle.cache_model.specs.Legal.{IsLegal}
 
 -- an epoch and its journal, within limits that no call changes
 pub record State : Type 0 where
@@ -16,6 +17,15 @@ pub record IsWithinRanges (limits : Limits) : Type 0 where
   pub most_events : limits.events ≤ 65536
   pub least_bytes : 16 ≤ limits.bytes
   pub most_bytes : limits.bytes ≤ 268435456
+
+-- a state that a book can have
+pub record IsLegalState (s : State) : Type 0 where
+  pub legal : IsLegal s.limits s.journal
+  pub ranges : IsWithinRanges s.limits
+
+-- the state of a book that was just opened
+abbrev pub opened : Limits → ℕ → State
+opened limits first = record { limits = limits; epoch = first; journal = [] }
 
 -- the next epoch, which is empty: its tickets begin at 0 again, and nothing is held
 abbrev pub turned : State → State

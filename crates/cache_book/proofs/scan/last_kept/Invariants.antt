@@ -1,5 +1,5 @@
 use Rattle.std.specs.Option.{option_copied}
-use Rattle.cache_model.specs.Journal.{IsKeptFor}
+use Rattle.cache_book.specs.Scan.{IsKeptFor}
 use Rattle.cache_model.proofs.Last.{IsLastBelow}
 use Rattle.cache_book.proofs.scan.last_kept.Given as goal
 

@@ -1,0 +1,5 @@
+use Rattle.cache_model.proofs.StoryLaws as laws
+use Rattle.cache_model.proofs.stories.by_without.Goals as goal
+
+pub returns : goal.returns
+returns c = laws.by_without

@@ -1,0 +1,5 @@
+use Rattle.cache_model.proofs.StoryLaws as laws
+use Rattle.cache_model.proofs.stories.without_refl.Goals as goal
+
+pub returns : goal.returns
+returns c = laws.without_refl
