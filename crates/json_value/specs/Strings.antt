@@ -70,5 +70,5 @@ pub data Chars (cut : Bool) : List ℕ → List ℕ → Type 0 where
       → Chars cut (encode_utf8 u ++ t) (92 ∷ (117 ∷ (ds ++ w)))
   pair_escape : (u v : ℕ) (ds es t w : List ℕ) → IsUnit u ds → IsUnit v es → is_high u ≡ true → is_low v ≡ true → Chars cut t w
       → Chars cut (encode_utf8 (join u v) ++ t) (92 ∷ (117 ∷ (ds ++ (92 ∷ (117 ∷ (es ++ w))))))
-  cut_escape : (u : ℕ) (ds t w : List ℕ) → cut ≡ true → IsUnit u (ds ++ (48 ∷ [])) → is_low u ≡ true → Chars cut t w
-      → Chars cut t (92 ∷ (117 ∷ (ds ++ (256 ∷ w))))
+  cut_escape : (a b c x y z : ℕ) (t w : List ℕ) → cut ≡ true → hex_digit x ≡ Some a → hex_digit y ≡ Some b → hex_digit z ≡ Some c
+      → is_low (four_digits a b c 0) ≡ true → Chars cut t w → Chars cut t (92 ∷ (117 ∷ (x ∷ (y ∷ (z ∷ (256 ∷ w))))))
