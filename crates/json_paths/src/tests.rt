@@ -62,7 +62,9 @@ fn a_path_leads_to_each_part_in_order(rt: HostRuntime) -> Result<(), Fail> {
     assert_eq!(rt; shown(alloc, &first)?.as_str(), "a,0,b");
     assert_eq!(rt; shown(alloc, &found[1])?.as_str(), "a,2,b");
     assert!(rt; matches!(at(&value, &first), Some(Json::Number(_))));
-    let none = Place { spots: Items::new(alloc) };
+    let none = Place {
+        spots: Items::new(alloc),
+    };
     assert!(rt; matches!(at(&value, &none), Some(Json::Object(_))));
     Ok(())
 }
@@ -71,9 +73,15 @@ fn a_path_leads_to_each_part_in_order(rt: HostRuntime) -> Result<(), Fail> {
 fn requires_are_copied(rt: HostRuntime) -> Result<(), Fail> {
     let alloc = rt.alloc();
     let mut fields = Items::new(alloc);
-    fields.push(Need { name: name(alloc, "sku")?, fields: Items::new(alloc) })?;
-    let requires = Requires { type_name: name(alloc, "Product")?, fields };
-    let copy = requires.copy(alloc)?;
+    fields.push(Need {
+        name: name(alloc, "sku")?,
+        fields: Items::new(alloc),
+    })?;
+    let needed = Requires {
+        type_name: name(alloc, "Product")?,
+        fields,
+    };
+    let copy = needed.copy(alloc)?;
     assert_eq!(rt; copy.type_name.as_str(), "Product");
     assert_eq!(rt; copy.fields.len(), 1);
     Ok(())
