@@ -1,10 +1,10 @@
 -- What print gives at each kind of value.
-use Rattle.std.proofs.Common.{◌≡◌, ℕ, List, [], ◌∷◌, ◌++◌, refl, ap, ◌∙◌, sym, rules, true, false, Bool}
+use Rattle.std.proofs.Common.{◌≡◌, ℕ, List, ◌++◌, ap, ◌∙◌, sym, true, false}
 use Rattle.std.specs.Prelude.{map, codes}
 use Rattle.json_value.specs.declared.tree.Json.{Json}
 use Rattle.json_value.specs.declared.tree.Json.TheVariants as json
 use Rattle.json_value.specs.declared.tree.Json.TheOpen.{Json-F}
-use Rattle.json_value.specs.declared.tree.Json.TheFolds.{fold-Json, fold-roll-Json}
+use Rattle.json_value.specs.declared.tree.Json.TheFolds.{fold-roll-Json}
 use Rattle.json_print.specs.Escapes.{quoted}
 use Rattle.json_print.specs.Print.{bracketed, print, print_step, print_member, member_text}
 

@@ -12,6 +12,8 @@ use std::alloc::Global;
 /// objects, as to let the value go does, and makes no other text.
 pub fn print(alloc: Global, value: &Json) -> Result<Text, Memory>
     ensures text { IfOk result (λ t. t ≡ spec.print value.now) }
+    // Where some text stands for the value, as for each value that was read, this text does.
+    ensures reads_back { IfOk result (λ t. (other : List ℕ) → IsText strict value.now other → IsText strict value.now t) }
 {
     let mut out = String::new(alloc);
     put(&mut out, value)?;

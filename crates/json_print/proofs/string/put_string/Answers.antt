@@ -1,4 +1,4 @@
-use Rattle.std.proofs.Common.{◌≡◌, rules, arith, ap, get_or}
+use Rattle.std.proofs.Common.{◌≡◌, rules, get_or}
 use Rattle.std.specs.Prelude.{string_bytes}
 use Rattle.json_print.specs.Escapes.{NeedsEscape}
 use Rattle.json_print.proofs.Runs.{begins, goes_on, escapes}
