@@ -1,10 +1,9 @@
 -- A step is a function of state and call, but for want of memory.
-use Rattle.std.proofs.Common.{◌≡◌, ◌≢◌, ◌⊎◌, inl, inr, ℕ, ◌+◌, ◌<◌, ◌≤◌, ◌==◌, Bool, true, false, List, [], ◌∷◌, ◌++◌, length, Option, Some, None, refl, ap, sym, ◌∙◌, arith, subst}
+use Rattle.std.proofs.Common.{◌≡◌, ◌≢◌, ℕ, ◌==◌, Bool, true, false, List, [], ◌∷◌, ◌++◌, length, Option, Some, None, refl, ap, sym, ◌∙◌, arith, subst}
 use Rattle.std.specs.Prelude.{MatchBool, is_some}
 use Rattle.std.proofs.lemmas.Option.{same_Some}
 use Rattle.cache_terms.specs.declared.keys.Key.{Key}
 use Rattle.cache_terms.specs.declared.keys.Target.{Target}
-use Rattle.cache_terms.specs.declared.events.Got.{Got}
 use Rattle.cache_terms.specs.declared.events.Limits.{Limits}
 use Rattle.cache_terms.specs.declared.events.Event.{Event}
 use Rattle.cache_terms.specs.declared.events.Event.TheVariants as event
@@ -21,14 +20,14 @@ use Rattle.cache_book.specs.declared.found.Found.{Found}
 use Rattle.cache_book.specs.declared.found.Found.TheVariants as found
 use Rattle.cache_book.specs.declared.permit.Report.{Report}
 use Rattle.cache_book.specs.declared.permit.Report.TheVariants as report
-use Rattle.cache_model.specs.Journal.{Started, Kept, kept_at, remaining, starts, IsHeldUnder}
+use Rattle.cache_model.specs.Journal.{Started, Kept, kept_at, remaining, IsHeldUnder}
 use Rattle.cache_model.specs.Legal.{IsDue}
 use Rattle.cache_model.specs.State.{State, begun, turned}
 use Rattle.cache_book.specs.Step.{Pinned, Granted}
-use Rattle.cache_book.specs.Looking.{Asked, AskedAll, IsHit, IsMiss, IsWide, Looks, LooksBy, bypass_mark, granted}
+use Rattle.cache_book.specs.Looking.{Asked, AskedAll, IsHit, Looks, LooksBy, bypass_mark}
 use Rattle.cache_book.specs.Settling.{Settles, SettlesBy, Appends, Leaves, got_by, got_of}
-use Rattle.cache_book.specs.Voiding.{Voids, VoidsBy, AppendsVoid, AppendsNoVoid, turning, tally_of}
-use Rattle.cache_book.specs.Calls.{Call, Answer, Step, Run, Begin, Look, Settle, Invalidate, Tally, Begun, Looked, Closed, Voided, Told, OutOfMemory}
+use Rattle.cache_book.specs.Voiding.{Voids, VoidsBy, AppendsVoid, turning, tally_of}
+use Rattle.cache_book.specs.Calls.{Call, Answer, Step, Begin, Look, Settle, Invalidate, Tally, Begun, Looked, Closed, Voided, Told, OutOfMemory}
 use Rattle.cache_model.proofs.Unique.{choice_unique, count_unique, due_by_unique}
 
 hit_unique : (pass : Pinned) (id : Option (List ℕ)) (now : ℕ) (key : Key) (J : List Event) (l l' q q' : ℕ) (v v' : List ℕ) (m m' : ℕ) (b b' : Bool) (K K' : List Event)

@@ -4,3 +4,4 @@ pub mod Asks
 pub mod Owing
 pub mod Telling
 pub mod Determined
+pub mod Stepping

@@ -1,6 +1,6 @@
 -- What the answers of a look tell: new tickets, and nothing of another caller's own.
-use Rattle.std.proofs.Common.{◌≡◌, ◌⊎◌, inl, inr, ℕ, ◌+◌, ◌*◌, ◌<◌, ◌≤◌, ◌==◌, Bool, true, false, List, [], ◌∷◌, ◌++◌, length, take, slice_get, Option, Some, None, All, refl, ap, sym, ◌∙◌, arith, subst, append_assoc, length-append}
-use Rattle.std.specs.Prelude.{if◌then◌else◌, nat_lt, min, not, Contains, ◌^◌, ◌-◌}
+use Rattle.std.proofs.Common.{◌≡◌, ℕ, ◌+◌, ◌*◌, ◌<◌, ◌≤◌, ◌==◌, Bool, true, false, List, [], ◌∷◌, ◌++◌, length, Option, Some, None, All, refl, ap, sym, ◌∙◌, arith, subst, append_assoc}
+use Rattle.std.specs.Prelude.{if◌then◌else◌, nat_lt, min, not, ◌^◌, ◌-◌}
 use Rattle.std.proofs.lemmas.Option.{same_Some, slice_get_within}
 use Rattle.std.proofs.lemmas.List.Elements.{All-cons, All-nil, All-contains, All-weaker}
 use Rattle.std.proofs.lemmas.List.Sums.{sum_by_push}
@@ -12,17 +12,17 @@ use Rattle.cache_terms.specs.declared.events.Mark.{Mark}
 use Rattle.cache_terms.specs.declared.events.Mark.TheVariants as mark
 use Rattle.cache_book.specs.declared.found.Found.{Found}
 use Rattle.cache_book.specs.declared.found.Found.TheVariants as found
-use Rattle.cache_model.specs.Journal.{Started, start_of, starts, is_start, reserved, IsChoice}
+use Rattle.cache_model.specs.Journal.{Started, start_of, starts, is_start, reserved}
 use Rattle.cache_model.specs.Legal.{IsLegal, EachFits, IsNext}
 use Rattle.cache_model.specs.State.{State}
 use Rattle.cache_book.specs.Step.{Pinned, Granted}
-use Rattle.cache_book.specs.Looking.{Asked, AskedAll, bypass_mark, bypassed, granted}
+use Rattle.cache_book.specs.Looking.{Asked, AskedAll, bypass_mark, bypassed}
 use Rattle.cache_book.specs.Told.{ticket_of, tickets_of, AreNew, IsChosen, AreChosen}
 use Rattle.cache_model.proofs.Growth.{slice_get_before, take_before}
 use Rattle.cache_model.proofs.Tickets.{ticket_below}
 use Rattle.cache_model.proofs.Choosing.{SameFor, same_sym, choice_same, choice_masked}
 use Rattle.cache_model.proofs.Quiet.{quiet_same}
-use Rattle.cache_book.proofs.Asking.{asked_legal, asked_room, starts_lookup}
+use Rattle.cache_book.proofs.Asking.{asked_legal, asked_room}
 
 -- the numbers go up by one from n
 abbrev CountUp : ℕ → List ℕ → Type 0

@@ -1,5 +1,5 @@
 -- Each call on a book is a step of one machine.
-use Rattle.std.specs.Prelude.{◌≡◌, ℕ, List, [], ◌∷◌, Option}
+use Rattle.std.specs.Prelude.{◌≡◌, ◌≢◌, ℕ, List, [], ◌∷◌, Option}
 use Rattle.cache_terms.specs.declared.keys.Key.{Key}
 use Rattle.cache_terms.specs.declared.keys.Target.{Target}
 use Rattle.cache_book.specs.declared.answers.Settled.{Settled}
@@ -9,7 +9,7 @@ use Rattle.cache_book.specs.declared.found.Found.{Found}
 use Rattle.cache_book.specs.declared.permit.Report.{Report}
 use Rattle.cache_model.specs.State.{State, begun}
 use Rattle.cache_book.specs.Step.{Pinned, Granted}
-use Rattle.cache_book.specs.Settling.{Settles}
+use Rattle.cache_book.specs.Settling.{Settles, MaySettle, IsInRange}
 use Rattle.cache_book.specs.Looking.{Looks}
 use Rattle.cache_book.specs.Voiding.{Voids, tally_of}
 
@@ -72,9 +72,22 @@ Step old Tally (Closed settled) new = ⊥
 Step old Tally (Voided answer) new = ⊥
 Step old Tally OutOfMemory new = ⊥
 
--- the calls may have these answers, one after another
+-- what has to hold where the call is made: a permit may be settled, and its report is in range
+abbrev pub MayCall : State → Call → Type 0
+MayCall old (Settle permit report) = MaySettle old permit × IsInRange report
+MayCall old (Begin who) = Unit {0}
+MayCall old (Look pass id asks now) = Unit {0}
+MayCall old (Invalidate who target) = Unit {0}
+MayCall old Tally = Unit {0}
+
+-- none of the answers is want of memory
+abbrev pub FoundMemory : List Answer → Type 0
+FoundMemory [] = Unit {0}
+FoundMemory (answer ∷ answers) = (answer ≢ OutOfMemory) × FoundMemory answers
+
+-- the calls, each made where it may be, have these answers one after another
 abbrev pub Run : State → List Call → List Answer → State → Type 0
 Run old [] [] new = new ≡ old
-Run old (call ∷ calls) (answer ∷ answers) new = (mid : State) × Step old call answer mid × Run mid calls answers new
+Run old (call ∷ calls) (answer ∷ answers) new = (mid : State) × MayCall old call × Step old call answer mid × Run mid calls answers new
 Run old [] (answer ∷ answers) new = ⊥
 Run old (call ∷ calls) [] new = ⊥

@@ -3,6 +3,7 @@ ghost use Rattle.std.specs.Option.{option_copied};
 ghost use Rattle.cache_terms.specs.Keys.{key_bytes};
 ghost use Rattle.std.specs.Prelude.{ℕ};
 ghost use Rattle.cache_book.specs.Owed.{AreOwed};
+ghost use Rattle.cache_book.specs.Told.{AreNew, tickets_of, AreChosen};
 ghost use Rattle.cache_model.specs.Journal.{Started, IsOpen, reserved, IsChoice};
 ghost use Rattle.cache_model.specs.Soundness.{IsSound};
 ghost use Rattle.cache_book.specs.Scan.{IsGoodAt};
@@ -185,6 +186,8 @@ pub fn ask_all(
     ensures err { OnErr result (events.new.items ≡ events.old.items) }
     ensures owed { IfOk result (λ answers. (epoch : ℕ) → AreOwed (record { limits = limits; epoch = epoch; journal = events.new.items }) answers.items) }
     ensures keeps { (t : ℕ) (s : Started) → IsOpen events.old.items t s → IsOpen events.new.items t s }
+    ensures tickets { IfOk result (λ answers. AreNew events.old.items (tickets_of answers.items)) }
+    ensures chosen { IfOk result (λ answers. AreChosen events.old.items (option_copied id.entry) now asks.items answers.items) }
     ensures legal { IsLegal limits events.new.items }
     ensures capacity { limits.events ≤ vec_capacity events.new }
 {

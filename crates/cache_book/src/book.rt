@@ -32,9 +32,10 @@ impl Model for Book {
 
 impl Book {
     ghost use Rattle.std.specs.Prelude.{◌≡◌, [], IfOk};
-    ghost use Rattle.cache_model.specs.State.{State, IsWithinRanges};
+    ghost use Rattle.cache_model.specs.State.{State, IsWithinRanges, opened};
     ghost use Rattle.std.specs.Prelude.{OnErr};
     ghost use Rattle.std.specs.Option.{option_copied};
+    ghost use Rattle.cache_book.specs.Told.{AreNew, tickets_of, AreChosen};
     ghost use Rattle.cache_book.specs.Owed.{AreOwed, KeepsPermits, KeepsOthers, KeepsEarlier};
     ghost use Rattle.cache_book.specs.Calls.{Step, Begin, Begun, Look, Looked, OutOfMemory, Settle, Closed, Invalidate, Told};
     ghost use Rattle.cache_book.specs.Calls as machine;
@@ -44,7 +45,7 @@ impl Book {
     /// An empty journal in the epoch `first`. The room for its events is taken here.
     pub fn open(alloc: Global, limits: Limits, first: u64) -> Result<Book, Memory>
         requires { IsWithinRanges limits }
-        ensures { IfOk result (λ b. b ≡ record { limits = limits; epoch = first; journal = [] }) }
+        ensures { IfOk result (λ b. b ≡ opened limits first) }
     {
         Ok(Book {
             limits,
@@ -117,6 +118,8 @@ impl Book {
     ) -> Result<Vec<Found>, Memory>
         ensures ok { IfOk result (λ answers. Step self.old (Look pass.now (option_copied id.entry) asks.items now) (Looked answers.items) self.new) }
         ensures owed { IfOk result (λ answers. AreOwed self.new answers.items) }
+        ensures tickets { IfOk result (λ answers. AreNew self.old.journal (tickets_of answers.items)) }
+        ensures chosen { IfOk result (λ answers. AreChosen self.old.journal (option_copied id.entry) now asks.items answers.items) }
         ensures keeps { KeepsPermits self.old self.new }
         ensures err { OnErr result (Step self.old (Look pass.now (option_copied id.entry) asks.items now) OutOfMemory self.new) }
     {

@@ -10,6 +10,7 @@ mod ask;
 mod book;
 mod found;
 mod judge;
+mod laws;
 mod notice;
 mod pass;
 mod permit;
@@ -19,6 +20,10 @@ mod voiding;
 pub use answers::{Settled, Tally, Turned, Voided};
 pub use book::Book;
 pub use found::Found;
+pub use laws::{
+    permit_outlives_others, run_follows, run_is_determined, run_is_legal, step_is_by_its_caller,
+    step_is_determined, step_is_legal, tickets_are_new,
+};
 pub use notice::Notice;
 pub use pass::Pass;
 pub use permit::{Fill, Permit, Report};

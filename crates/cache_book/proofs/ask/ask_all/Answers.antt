@@ -7,6 +7,7 @@ use Rattle.cache_model.specs.Journal.{reserved}
 use Rattle.cache_book.specs.Looking.{Asked}
 use Rattle.cache_book.proofs.Asking.{asked_legal, asked_room, asked_appends}
 use Rattle.cache_book.proofs.Owing.{asks_owed, asks_keep}
+use Rattle.cache_book.proofs.Telling.{asks_new, asks_chosen}
 use Rattle.cache_book.proofs.Asks.{asks_step, asks_done, front_kept}
 use Rattle.cache_book.proofs.ask.ask_all.Goals as goal
 
@@ -49,3 +50,9 @@ returns-clause-owed c = λ epoch. asks_owed c.args.limits epoch c.args.pass (opt
 
 pub returns-clause-keeps : goal.returns-clause-keeps
 returns-clause-keeps c = λ t s h. asks_keep c.args.pass (option_copied c.args.id) c.args.now c.args.asks.items c.args.events.now.items c.asks.answers.items c.asks.events.items (returns-clause-ok c) t s h
+
+pub returns-clause-tickets : goal.returns-clause-tickets
+returns-clause-tickets c = asks_new c.args.limits c.args.pass (option_copied c.args.id) c.args.now c.args.asks.items c.args.events.now.items c.asks.answers.items c.asks.events.items c.requires.legal.each (returns-clause-ok c)
+
+pub returns-clause-chosen : goal.returns-clause-chosen
+returns-clause-chosen c = asks_chosen c.args.limits c.args.pass (option_copied c.args.id) c.args.now c.args.asks.items c.args.events.now.items c.asks.answers.items c.asks.events.items c.requires.legal c.requires.room (returns-clause-ok c)
