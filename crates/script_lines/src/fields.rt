@@ -57,10 +57,7 @@ pub fn status_of(word: &str) -> Option<u16>
     ensures { MatchOption result ((n : ℕ) → IsStatus word.now n → ⊥) (λ n. IsStatus word.now n) }
 {
     let bytes = word.as_bytes();
-    if bytes.len() != 3 {
-        return None;
-    }
-    if bytes[0] == b'+' {
+    if bytes.len() != 3 || bytes[0] == b'+' {
         return None;
     }
     match word.parse::<u16>() {

@@ -5,5 +5,4 @@ ghost use Rattle.script_lines.specs.Commands.{Says};
 /// A law, which does nothing when it runs: a line has one reading.
 pub fn one_reading()
     ensures { (line : List (List ℕ)) (c d : Command) → Says line c → Says line d → c ≡ d }
-{
-}
+{}

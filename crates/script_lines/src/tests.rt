@@ -112,78 +112,69 @@ fn reads(alloc: Global, line: &str, wanted: &str) -> bool {
     }
 }
 
+/// A line, and the command that is read from it, or `none`.
+const TABLE: &str = "begin 0|begin 0\n\
+begin 65535|begin 65535\n\
+begin 65536|none\n\
+begin 01|none\n\
+begin +1|none\n\
+begin  1|none\n\
+begin 1 |none\n\
+begin 1\r|none\n\
+begin|none\n\
+look 1 - 0 a T r s|look 1 [none] 0 [a] [T] [r] [s]\n\
+look 1 u1 7 a T r s|look 1 [u1] 7 [a] [T] [r] [s]\n\
+look 1 -- 7 a T - s|look 1 [--] 7 [a] [T] [-] [s]\n\
+look 1 - 999999999999999 a T r s|look 1 [none] 999999999999999 [a] [T] [r] [s]\n\
+look 1 - 1000000000000000 a T r s|none\n\
+look 1  0 a T r s|none\n\
+look 1 - 0 a T r|none\n\
+look 1 - 0 a T r s s|none\n\
+look 1 - 0 a T  s|none\n\
+settle 3.14 60 5 public - v|settle 3 14 60 5 false [known] [v]\n\
+settle 0.0 2147483648 2147483648 private a,b,a v|settle 0 0 2147483648 2147483648 true [known a b] [v]\n\
+settle 0.0 2147483649 0 public - v|none\n\
+settle 0.0 0 2147483649 public - v|none\n\
+settle 0.0 60 0 Public - v|none\n\
+settle 00.0 60 0 public - v|none\n\
+settle 0.0.0 60 0 public - v|none\n\
+settle 0.0 60 0 public  v|none\n\
+settle 0.0 60 0 public - |none\n\
+settle 0.0 60 0 public a,,b v|settle 0 0 60 0 false [malformed] [v]\n\
+settle 0.0 60 0 public a,b,c,d,e,f,g,h,i,j,k,l,m,n,o,p,q,q v|settle 0 0 60 0 false [many 17] [v]\n\
+settle 0.0 60 0 public a,b,c,d,e,f,g,h,i,j,k,l,m,n,o,p,q, v|settle 0 0 60 0 false [malformed] [v]\n\
+reply 0.1 503 7 g,h v max-age=5, private|reply 0 1 503 [7] [known g h] [v] [max-age=5, private]\n\
+reply 0.1 099 - - v -|reply 0 1 99 [none] [known] [v] [none]\n\
+reply 0.1 200 x - v |reply 0 1 200 [x] [known] [v] []\n\
+reply 0.1 200 x - v  |reply 0 1 200 [x] [known] [v] [ ]\n\
+reply 0.1 200 x - v|none\n\
+reply 0.1 200 x -  -|none\n\
+reply 0.1 99 - - v -|none\n\
+reply 0.1 +99 - - v -|none\n\
+reply 0.1 0200 - - v -|none\n\
+fail 3.14|fail 3 14\n\
+fail 3|none\n\
+fail 3.|none\n\
+void 2 sub a|void 2 subgraph [a]\n\
+void 2 type a T|void 2 type [a] [T]\n\
+void 2 tag a g|void 2 tag [a] [g]\n\
+void 2 sub a T|none\n\
+void 2 type a|none\n\
+void 2 tag a |none\n\
+void 2 key a g|none\n\
+tally|tally\n\
+tally |none\n\
+Tally|none\n\
+|none";
+
 #[test]
 fn lines_are_read(rt: HostRuntime) {
     let alloc = rt.alloc();
-    let table = [
-        ("begin 0", "begin 0"),
-        ("begin 65535", "begin 65535"),
-        ("begin 65536", "none"),
-        ("begin 01", "none"),
-        ("begin +1", "none"),
-        ("begin  1", "none"),
-        ("begin 1 ", "none"),
-        ("begin 1\r", "none"),
-        ("begin", "none"),
-        ("look 1 - 0 a T r s", "look 1 [none] 0 [a] [T] [r] [s]"),
-        ("look 1 u1 7 a T r s", "look 1 [u1] 7 [a] [T] [r] [s]"),
-        ("look 1 -- 7 a T - s", "look 1 [--] 7 [a] [T] [-] [s]"),
-        ("look 1 - 999999999999999 a T r s", "look 1 [none] 999999999999999 [a] [T] [r] [s]"),
-        ("look 1 - 1000000000000000 a T r s", "none"),
-        ("look 1  0 a T r s", "none"),
-        ("look 1 - 0 a T r", "none"),
-        ("look 1 - 0 a T r s s", "none"),
-        ("look 1 - 0 a T  s", "none"),
-        ("settle 3.14 60 5 public - v", "settle 3 14 60 5 false [known] [v]"),
-        (
-            "settle 0.0 2147483648 2147483648 private a,b,a v",
-            "settle 0 0 2147483648 2147483648 true [known a b] [v]",
-        ),
-        ("settle 0.0 2147483649 0 public - v", "none"),
-        ("settle 0.0 0 2147483649 public - v", "none"),
-        ("settle 0.0 60 0 Public - v", "none"),
-        ("settle 00.0 60 0 public - v", "none"),
-        ("settle 0.0.0 60 0 public - v", "none"),
-        ("settle 0.0 60 0 public  v", "none"),
-        ("settle 0.0 60 0 public - ", "none"),
-        ("settle 0.0 60 0 public a,,b v", "settle 0 0 60 0 false [malformed] [v]"),
-        (
-            "settle 0.0 60 0 public a,b,c,d,e,f,g,h,i,j,k,l,m,n,o,p,q,q v",
-            "settle 0 0 60 0 false [many 17] [v]",
-        ),
-        (
-            "settle 0.0 60 0 public a,b,c,d,e,f,g,h,i,j,k,l,m,n,o,p,q, v",
-            "settle 0 0 60 0 false [malformed] [v]",
-        ),
-        (
-            "reply 0.1 503 7 g,h v max-age=5, private",
-            "reply 0 1 503 [7] [known g h] [v] [max-age=5, private]",
-        ),
-        ("reply 0.1 099 - - v -", "reply 0 1 99 [none] [known] [v] [none]"),
-        ("reply 0.1 200 x - v ", "reply 0 1 200 [x] [known] [v] []"),
-        ("reply 0.1 200 x - v  ", "reply 0 1 200 [x] [known] [v] [ ]"),
-        ("reply 0.1 200 x - v", "none"),
-        ("reply 0.1 200 x -  -", "none"),
-        ("reply 0.1 99 - - v -", "none"),
-        ("reply 0.1 +99 - - v -", "none"),
-        ("reply 0.1 0200 - - v -", "none"),
-        ("fail 3.14", "fail 3 14"),
-        ("fail 3", "none"),
-        ("fail 3.", "none"),
-        ("void 2 sub a", "void 2 subgraph [a]"),
-        ("void 2 type a T", "void 2 type [a] [T]"),
-        ("void 2 tag a g", "void 2 tag [a] [g]"),
-        ("void 2 sub a T", "none"),
-        ("void 2 type a", "none"),
-        ("void 2 tag a ", "none"),
-        ("void 2 key a g", "none"),
-        ("tally", "tally"),
-        ("tally ", "none"),
-        ("Tally", "none"),
-        ("", "none"),
-    ];
-    for (line, wanted) in table {
-        assert!(rt; reads(alloc, line, wanted), "{line}");
+    for row in TABLE.split('\n') {
+        match row.split_once('|') {
+            Some((line, wanted)) => assert!(rt; reads(alloc, line, wanted), "{line}"),
+            None => panic!(rt; "{row}"),
+        }
     }
     assert!(rt; is_quiet(""));
     assert!(rt; is_quiet("# tally"));
@@ -193,8 +184,16 @@ fn lines_are_read(rt: HostRuntime) {
     one_reading();
 }
 
+/// Whether a reply was written, and is this.
+fn writes(reply: Result<Text, Memory>, wanted: &str) -> bool {
+    match reply {
+        Err(Memory) => false,
+        Ok(text) => text.as_str() == wanted,
+    }
+}
+
 #[test]
-fn replies_are_written(rt: HostRuntime) -> Result<(), Fail> {
+fn replies_are_written(rt: HostRuntime) -> Result<(), Memory> {
     let alloc = rt.alloc();
     let value = Text::of(alloc, "v")?;
     let full = Mark::Full {
@@ -216,20 +215,33 @@ fn replies_are_written(rt: HostRuntime) -> Result<(), Fail> {
         pinned: 0,
         current: 1,
     };
-    assert_eq!(rt; epoch_line(alloc, 2)?.as_str(), "epoch 2\n");
-    assert_eq!(rt; hit_line(alloc, 3, 2, &value)?.as_str(), "3 hit 2 v\n");
-    assert_eq!(rt; miss_line(alloc, 3, 1, Mark::Ticket(4))?.as_str(), "3 miss 1.4\n");
-    assert_eq!(rt; bypass_line(alloc, full)?.as_str(), "bypass full 5 1 3 8\n");
-    assert_eq!(rt; settled_line(alloc, Some(2), Outcome::Stored)?.as_str(), "2 stored\n");
-    assert_eq!(rt;
-        settled_line(alloc, Some(2), stale)?.as_str(),
-        "2 unstorable stale 60 61\n"
+    let stored = Outcome::Stored;
+    assert!(rt; writes(epoch_line(alloc, 2), "epoch 2\n"));
+    assert!(rt; writes(hit_line(alloc, 3, 2, &value), "3 hit 2 v\n"));
+    assert!(rt; writes(miss_line(alloc, 3, 1, Mark::Ticket(4)), "3 miss 1.4\n"));
+    assert!(rt; writes(bypass_line(alloc, full), "bypass full 5 1 3 8\n"));
+    assert!(rt; writes(settled_line(alloc, Some(2), stored), "2 stored\n"));
+    assert!(rt;
+        writes(
+            settled_line(alloc, Some(2), stale),
+            "2 unstorable stale 60 61\n"
+        )
     );
-    assert_eq!(rt; settled_line(alloc, Some(5), room)?.as_str(), "5 noroom 10 11 16\n");
-    assert_eq!(rt; settled_line(alloc, None, over)?.as_str(), "over 0 1\n");
-    assert_eq!(rt; voided_line(alloc, None, 4, 1)?.as_str(), "4 voided 1\n");
-    assert_eq!(rt; voided_line(alloc, Some(2), 0, 0)?.as_str(), "turned 2 0 voided 0\n");
-    assert_eq!(rt; tally_line(alloc, 1, 7, 20, 2)?.as_str(), "epoch 1 events 7 bytes 20 open 2\n");
-    assert_eq!(rt; refused_line(alloc, 4, Cause::Ticket)?.as_str(), "line 4 refused ticket\n");
+    assert!(rt; writes(settled_line(alloc, Some(5), room), "5 noroom 10 11 16\n"));
+    assert!(rt; writes(settled_line(alloc, None, over), "over 0 1\n"));
+    assert!(rt; writes(voided_line(alloc, None, 4, 1), "4 voided 1\n"));
+    assert!(rt; writes(voided_line(alloc, Some(2), 0, 0), "turned 2 0 voided 0\n"));
+    assert!(rt;
+        writes(
+            tally_line(alloc, 1, 7, 20, 2),
+            "epoch 1 events 7 bytes 20 open 2\n"
+        )
+    );
+    assert!(rt;
+        writes(
+            refused_line(alloc, 4, Cause::Ticket),
+            "line 4 refused ticket\n"
+        )
+    );
     Ok(())
 }
