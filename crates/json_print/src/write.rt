@@ -8,8 +8,9 @@ use json_value::Json;
 use std::alloc::Global;
 
 /// The compact text of a value (RFC 8259): no white space, a number as its text, and of a string only `"`, `\` and
-/// the characters below U+0020 escaped. Fails only for want of memory. Recurses once for each level of lists and
-/// objects, as to let the value go does, and makes no other text.
+/// the characters below U+0020 escaped. Fails only for want of memory. Makes no other text, and recurses once for each
+/// level of lists and objects, of which a value that was read has at most 64: this takes some fifty bytes of stack a
+/// level, and to let the value go some hundred and fifty.
 pub fn print(alloc: Global, value: &Json) -> Result<Text, Memory>
     ensures text { IfOk result (λ t. t ≡ spec.print value.now) }
     // Where some text stands for the value, as for each value that was read, this text does.
