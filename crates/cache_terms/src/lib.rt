@@ -14,3 +14,6 @@ pub use keys::{Key, Scope, Target, covers};
 pub use offers::{Marks, Offer, Verdict, why};
 pub use reasons::Why;
 pub use tags::{TagList, Tags};
+
+#[cfg(test)]
+mod tests;

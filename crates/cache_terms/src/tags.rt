@@ -1,7 +1,10 @@
 ghost use Rattle.std.specs.Prelude.{◌≡◌, ◌↔◌, ◌-◌, ◌^◌, [], min, length, sum_by, IsTrue, IfOk, Contains};
-ghost use Rattle.cache_terms.specs.Tags.{HasTag, tags_size};
+ghost use Rattle.std.specs.List.{list_all};
+ghost use Rattle.cache_terms.specs.TagRules.{serves, distinct};
+ghost use Rattle.cache_terms.specs.Tags.{HasTag, tags_size, tags_of};
 
 use flow_base::{Memory, Text};
+use indexmap::IndexSet;
 use std::alloc::Global;
 use std::marker::Model;
 
@@ -88,6 +91,24 @@ pub enum Tags {
 }
 
 impl Tags {
+    /// The tags of a piece from the texts that came for it: Malformed where some text is empty or has
+    /// over 128 bytes; else, with doubles left out, Many with their number where these are more than
+    /// 16, and otherwise Known, each at its first place. Hashes each text once. Fails only for want of
+    /// memory.
+    pub fn of(alloc: Global, texts: Vec<Text>) -> Result<Tags, Memory>
+        ensures { IfOk result (λ t. t ≡ tags_of texts.items) }
+    {
+        if !all_serve(&texts) {
+            return Ok(Tags::Malformed);
+        }
+        let tags = without_doubles(alloc, texts)?;
+        if tags.len() <= 16 {
+            Ok(Tags::Known(TagList::from_vec(tags)))
+        } else {
+            Ok(Tags::Many(tags.len() as u64))
+        }
+    }
+
     /// Whether the tag is one of the known tags.
     pub fn contains(&self, tag: &Text) -> bool
         ensures { IsTrue result ↔ HasTag self.now tag.now }
@@ -136,4 +157,36 @@ fn total(tags: &[Text]) -> u64
         size = size.saturating_add(tag.len() as u64);
     }
     size
+}
+
+fn all_serve(texts: &[Text]) -> bool
+    ensures { result ≡ list_all serves texts.now }
+{
+    texts.iter().all(|text| is_tag(text))
+}
+
+fn is_tag(text: &Text) -> bool
+    ensures { result ≡ serves text.now }
+{
+    0 < text.len() && text.len() <= 128
+}
+
+fn without_doubles(alloc: Global, texts: Vec<Text>) -> Result<Vec<Text>, Memory>
+    ensures { IfOk result (λ v. v.items ≡ distinct texts.items) }
+{
+    let mut seen = IndexSet::new(alloc);
+    for text in texts {
+        seen.insert(text)?;
+    }
+    in_order(alloc, seen)
+}
+
+fn in_order(alloc: Global, texts: IndexSet<Text>) -> Result<Vec<Text>, Memory>
+    ensures { IfOk result (λ v. v.items ≡ texts.keys) }
+{
+    let mut list = Vec::with_capacity(alloc, texts.len())?;
+    for text in texts {
+        list.push(text)?;
+    }
+    Ok(list)
 }

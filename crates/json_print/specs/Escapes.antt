@@ -1,0 +1,33 @@
+-- How a string is written (RFC 8259, section 7): what must be escaped is, and nothing else.
+use Rattle.std.specs.Prelude.{◌≡◌, ℕ, ◌+◌, ◌/◌, ◌%◌, ◌<◌, ◌==◌, ◌⊎◌, nat_lt, if◌then◌else◌, List, [], ◌∷◌, ◌++◌, codes}
+
+-- the control characters, the quote and the backslash
+abbrev pub NeedsEscape : ℕ → Type 0
+NeedsEscape b = (b < 32) ⊎ ((b ≡ 34) ⊎ (b ≡ 92))
+
+-- a hexadecimal digit, in lower case
+abbrev pub hex : ℕ → ℕ
+hex n = if nat_lt n 10 then 48 + n else 87 + n
+
+-- a control character by its number
+abbrev pub control : ℕ → List ℕ
+control b = codes "\\u00" ++ (hex (b / 16) ∷ (hex (b % 16) ∷ []))
+
+-- a byte of a string as it is written
+abbrev pub escape : ℕ → List ℕ
+escape b =
+    if b == 34 then codes "\\\"" else
+    (if b == 92 then codes "\\\\" else
+    (if b == 8 then codes "\\b" else
+    (if b == 9 then codes "\\t" else
+    (if b == 10 then codes "\\n" else
+    (if b == 12 then codes "\\f" else
+    (if b == 13 then codes "\\r" else
+    (if nat_lt b 32 then control b else b ∷ [])))))))
+
+abbrev pub escaped : List ℕ → List ℕ
+escaped [] = []
+escaped (b ∷ bs) = escape b ++ escaped bs
+
+abbrev pub quoted : List ℕ → List ℕ
+quoted text = 34 ∷ (escaped text ++ (34 ∷ []))

@@ -1,0 +1,55 @@
+-- On bytes, an unfinished escape of a low surrogate makes no difference.
+use Rattle.std.proofs.Common.{◌≡◌, ℕ, ◌+◌, ◌<◌, Bool, true, false, List, [], ◌∷◌, Result, Ok, Err, refl, sym, ap, ◌∙◌, arith}
+use Rattle.std.specs.Prelude.{◌==◌, ◌&&◌}
+use Rattle.std.proofs.lemmas.Bool.{cond-false, ne_eqb, and_left}
+use Rattle.json_read.specs.declared.refusal.Refusal.{Refusal}
+use Rattle.json_read.specs.declared.reader.Mode.{Mode}
+use Rattle.json_read.specs.declared.reader.Mode.TheVariants as m
+use Rattle.json_read.specs.declared.string.Part.{Part}
+use Rattle.json_read.specs.declared.string.Part.TheVariants as p
+use Rattle.json_value.specs.Grammar.{strict}
+use Rattle.json_value.specs.Strings.{hex_digit}
+use Rattle.json_read.specs.Faults.{lone}
+use Rattle.json_read.specs.Scan.{is_cut, hex_by, hex_scan, scan}
+use Rattle.json_read.specs.Steps.{run, on_step}
+use Rattle.json_read.specs.Machine.{Frames, State, str_by, naming_by, step_by, step}
+
+abbrev pub AreBytes : List ℕ → Type 0
+AreBytes [] = Unit {0}
+AreBytes (b ∷ bs) = (b < 256) × AreBytes bs
+
+scan_same : (at : ℕ) (part : Part) (text : List ℕ) (b : ℕ) → b < 256 → scan false at part text b ≡ scan true at part text b
+unfolding scan hex_scan
+scan_same at p.Plain text b lt = refl
+scan_same at (p.Escape place) text b lt = refl
+scan_same at (p.Hex place quad) text b lt = sym (cond-false (b == 256 && is_cut quad) _ _ (and_left (b == 256) (is_cut quad) (ne_eqb b 256 (λ same. omega arith))))
+scan_same at (p.Slash place high) text b lt = refl
+scan_same at (p.Letter place high) text b lt = refl
+scan_same at (p.Low place high quad) text b lt = refl
+scan_same at (p.Wide place tail) text b lt = refl
+
+step_same : (at : ℕ) (x : State) (b : ℕ) → b < 256 → step strict at x b ≡ step lone at x b
+unfolding step
+step_same at x b lt = by_mode x.mode
+  where
+    by_mode : (mode : Mode) → step_by strict at mode x.frames b ≡ step_by lone at mode x.frames b
+    by_mode m.Value = refl
+    by_mode m.First = refl
+    by_mode (m.After y) = refl
+    by_mode (m.Word word read) = refl
+    by_mode (m.Number part text) = refl
+    by_mode (m.Str part text) = ap (str_by x.frames) (scan_same at part text b lt)
+    by_mode m.FirstName = refl
+    by_mode (m.NextName ms) = refl
+    by_mode (m.Naming ms place part text) = ap (naming_by true x.frames ms place) (scan_same at part text b lt)
+    by_mode (m.Colon ms n) = refl
+
+pub run_same : (ts : List ℕ) (at : ℕ) (x : State) → AreBytes ts → run (step strict) ts at x ≡ run (step lone) ts at x
+unfolding run
+run_same [] at x are = refl
+run_same (t ∷ ts) at x are = ap (λ (o : Result State Refusal). on_step (step strict) at o (run (step strict) ts (at + 1))) (step_same at x t are.0) ∙ go (step lone at x t) (λ mid. run_same ts (at + 1) mid are.1)
+  where
+    go : (o : Result State Refusal) → ((mid : State) → run (step strict) ts (at + 1) mid ≡ run (step lone) ts (at + 1) mid)
+        → on_step (step strict) at o (run (step strict) ts (at + 1)) ≡ on_step (step lone) at o (run (step lone) ts (at + 1))
+    go (Ok mid) tail = tail mid
+    go (Err why) tail = refl

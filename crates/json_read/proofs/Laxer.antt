@@ -1,0 +1,88 @@
+-- What the rules allow, laxer rules allow.
+use Rattle.std.proofs.Common.{◌≡◌, ℕ, ◌<◌, ◌≤◌, Bool, true, false, cond, List, [], ◌∷◌, length, Result, Ok, Err, refl, ap, subst, ◌∙◌, arith}
+use Rattle.std.specs.Prelude.{nat_lt, ◌==◌, ◌&&◌}
+use Rattle.std.proofs.lemmas.Bool.{ltb-true, lt-ltb}
+use Rattle.json_read.specs.declared.refusal.Refusal.{Refusal}
+use Rattle.json_read.specs.declared.refusal.Refusal.TheVariants as e
+use Rattle.json_read.specs.declared.reader.Mode.{Mode}
+use Rattle.json_read.specs.declared.reader.Mode.TheVariants as m
+use Rattle.json_read.specs.declared.reader.Frame.TheVariants as f
+use Rattle.json_read.specs.declared.string.Part.{Part}
+use Rattle.json_read.specs.declared.string.Progress.TheVariants as s
+use Rattle.json_value.specs.Grammar.{Rules, is_blank, has}
+use Rattle.json_read.specs.Scan.{Scanned, scan}
+use Rattle.json_read.specs.Machine.{Frames, Pairs, State, to, open_by, begin, value_step, first_step, str_by, named, naming_by, step_by, step}
+
+-- the second rules allow whatever the first do
+pub record Laxer (a b : Rules) : Type 0 where
+  pub deeper : a.depth ≤ b.depth
+  pub names : (x : Bool) → (a.distinct && x) ≡ false → (b.distinct && x) ≡ false
+  pub same_cut : a.cut ≡ b.cut
+
+-- where the first outcome goes on, the second does so
+abbrev pub Agrees : {A : Type 0} → Result A Refusal → Result A Refusal → Type 0
+Agrees (Ok x) other = other ≡ Ok x
+Agrees (Err why) other = Unit {0}
+
+same : {A : Type 0} (o : Result A Refusal) → Agrees o o
+same (Ok x) = refl
+same (Err why) = tt
+
+-- both branches agree
+branches : {A : Type 0} (t : Bool) (x y y' : Result A Refusal) → Agrees y y' → Agrees (cond t x y) (cond t x y')
+branches true x y y' h = same x
+branches false x y y' h = h
+
+both : {A : Type 0} (t : Bool) (x x' y y' : Result A Refusal) → Agrees x x' → Agrees y y' → Agrees (cond t x y) (cond t x' y')
+both true x x' y y' h k = h
+both false x x' y y' h k = k
+
+scan_agrees : (l l' : Bool) (at : ℕ) (part : Part) (text : List ℕ) (b : ℕ) → l ≡ l' → Agrees (scan l at part text b) (scan l' at part text b)
+scan_agrees l l' at part text b is = subst (λ (k : Bool). Agrees (scan l at part text b) (scan k at part text b)) is (same (scan l at part text b))
+
+open_agrees : (d d' : ℕ) (mode : Mode) (fs : Frames) → d ≤ d' → Agrees (open_by d mode fs) (open_by d' mode fs)
+unfolding open_by
+open_agrees d d' mode fs le = by_test (nat_lt (length fs) d) refl
+  where
+    by_test : (t : Bool) → nat_lt (length fs) d ≡ t → Agrees (cond t (to mode fs) (Err e.Deep)) (cond (nat_lt (length fs) d') (to mode fs) (Err e.Deep))
+    by_test true h = rw (lt-ltb (length fs) d' (further (ltb-true (length fs) d h))) refl
+      where
+        further : length fs < d → length fs < d'
+        further lt = omega arith
+    by_test false h = tt
+
+begin_agrees : (d d' : ℕ) (fs : Frames) (t : ℕ) → d ≤ d' → Agrees (begin d fs t) (begin d' fs t)
+unfolding begin
+begin_agrees d d' fs t le = both (t == 91) _ _ _ _ (open_agrees d d' m.First fs le) (both (t == 123) _ _ _ _ (open_agrees d d' m.FirstName fs le) (same _))
+
+str_agrees : (fs : Frames) (o o' : Scanned) → Agrees o o' → Agrees (str_by fs o) (str_by fs o')
+str_agrees fs (Ok (s.Done text)) o' h = ap (str_by fs) h
+str_agrees fs (Ok (s.More part text)) o' h = ap (str_by fs) h
+str_agrees fs (Err why) o' h = tt
+
+naming_agrees : (a b : Rules) (fs : Frames) (ms : Pairs) (place : ℕ) (o o' : Scanned) → Laxer a b → Agrees o o' → Agrees (naming_by a.distinct fs ms place o) (naming_by b.distinct fs ms place o')
+unfolding named
+naming_agrees a b fs ms place (Ok (s.Done name)) o' laxer h = by_test (a.distinct && has ms name) refl
+  where
+    by_test : (t : Bool) → (a.distinct && has ms name) ≡ t → Agrees (cond t (Err (e.Twice place)) (to (m.Colon ms name) fs)) (naming_by b.distinct fs ms place o')
+    by_test true is = tt
+    by_test false is = ap (naming_by b.distinct fs ms place) h ∙ rw (laxer.names (has ms name) is) refl
+naming_agrees a b fs ms place (Ok (s.More part text)) o' laxer h = ap (naming_by b.distinct fs ms place) h
+naming_agrees a b fs ms place (Err why) o' laxer h = tt
+
+step_by_agrees : (a b : Rules) (at : ℕ) (mode : Mode) (fs : Frames) (t : ℕ) → Laxer a b → Agrees (step_by a at mode fs t) (step_by b at mode fs t)
+unfolding value_step first_step
+step_by_agrees a b at m.Value fs t laxer = branches (is_blank t) _ _ _ (begin_agrees a.depth b.depth fs t laxer.deeper)
+step_by_agrees a b at m.First fs t laxer = branches (is_blank t) _ _ _ (branches (t == 93) _ _ _ (begin_agrees a.depth b.depth (f.List [] ∷ fs) t laxer.deeper))
+step_by_agrees a b at (m.After x) fs t laxer = same _
+step_by_agrees a b at (m.Word word read) fs t laxer = same _
+step_by_agrees a b at (m.Number part text) fs t laxer = same _
+step_by_agrees a b at (m.Str part text) fs t laxer = str_agrees fs _ _ (scan_agrees a.cut b.cut at part text t laxer.same_cut)
+step_by_agrees a b at m.FirstName fs t laxer = same _
+step_by_agrees a b at (m.NextName ms) fs t laxer = same _
+step_by_agrees a b at (m.Naming ms place part text) fs t laxer = naming_agrees a b fs ms place _ _ laxer (scan_agrees a.cut b.cut at part text t laxer.same_cut)
+step_by_agrees a b at (m.Colon ms n) fs t laxer = same _
+
+pub step_agrees : (a b : Rules) (at : ℕ) (x : State) (t : ℕ) → Laxer a b → Agrees (step a at x t) (step b at x t)
+unfolding step
+step_agrees a b at x t laxer = step_by_agrees a b at x.mode x.frames t laxer

@@ -1,0 +1,7 @@
+pub mod Faults
+pub mod Left
+pub mod Machine
+pub mod Numbers
+pub mod Scan
+pub mod Steps
+pub mod View

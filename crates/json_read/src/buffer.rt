@@ -1,0 +1,63 @@
+//! The bytes of a number or a string that is being read.
+
+ghost use Rattle.std.specs.Prelude.{◌≡◌, [], ◌∷◌, ◌++◌, OnOk, encode_utf8, IsUtf8};
+
+use flow_base::Text;
+use std::alloc::{AllocError, Global};
+use std::marker::Model;
+
+/// Bytes that may end within a character.
+#[derive(Drop)]
+pub struct Buffer {
+    inner: Vec<u8>,
+}
+
+impl Model for Buffer {
+    ghost use Rattle.std.specs.Prelude.{List, ℕ};
+
+    ghost Value = { List ℕ };
+
+    ghost view = { λ b. b.inner.items };
+}
+
+impl Buffer {
+    pub fn new(alloc: Global) -> Buffer
+        ensures { result ≡ [] }
+    {
+        Buffer {
+            inner: Vec::new(alloc),
+        }
+    }
+
+    pub fn push(&mut self, byte: u8) -> Result<(), AllocError>
+        ensures { OnOk result (self.new ≡ self.old ++ byte ∷ []) }
+    {
+        self.append(&[byte])
+    }
+
+    pub fn append(&mut self, bytes: &[u8]) -> Result<(), AllocError>
+        ensures { OnOk result (self.new ≡ self.old ++ bytes.now) }
+    {
+        self.inner.extend_from_slice(bytes)
+    }
+
+    pub fn push_char(&mut self, c: char) -> Result<(), AllocError>
+        ensures { OnOk result (self.new ≡ self.old ++ encode_utf8 c) }
+    {
+        let mut room = [0; 4];
+        let text = c.encode_utf8(&mut room);
+        self.append(text.as_bytes())
+    }
+
+    /// The same bytes as a text, taking no memory.
+    pub fn into_text(self) -> Text
+        requires { IsUtf8 self }
+        ensures { result ≡ self }
+    {
+        let Buffer { inner } = self;
+        match String::from_utf8(inner) {
+            Ok(text) => Text::from_string(text),
+            Err(_) => unreachable!(),
+        }
+    }
+}

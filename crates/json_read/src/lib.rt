@@ -1,0 +1,11 @@
+//! Reading JSON: exactly the texts of the grammar, and of any other text its first fault from the left.
+#![tactic(auto)]
+
+mod buffer;
+mod number;
+mod open_members;
+mod reader;
+mod refusal;
+mod string;
+
+pub use reader::read;

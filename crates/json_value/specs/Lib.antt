@@ -1,0 +1,4 @@
+pub mod Grammar
+pub mod Strings
+pub mod Numbers
+pub mod Members

@@ -1,0 +1,4 @@
+pub mod Maps
+pub mod Holding
+pub mod Playing
+pub mod Telling

@@ -1,0 +1,15 @@
+use Rattle.std.proofs.Common.{◌∙◌, sym, refl}
+use Rattle.rehearsal.proofs.stage.Stage.look.Goals as goal
+
+pub returns : goal.returns
+returns c =
+    let asks = c.in_ok-ask-in-Some.ensures.asks in
+    rw (← c.self.view_is) (record {
+      pass = c.in-Some.pass;
+      pass_is = sym c.last.ensures ∙ c.in-Some.is;
+      answer = asks.answer;
+      step = rw c.as_ref.ensures.value at asks.step;
+      passes = refl;
+      hand = asks.taken;
+      says = asks.says;
+    })

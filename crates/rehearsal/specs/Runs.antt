@@ -1,0 +1,27 @@
+-- What a whole script writes.
+use Rattle.std.specs.Prelude.{◌≡◌, ◌⊎◌, ℕ, ◌+◌, List, [], ◌∷◌, ◌++◌}
+use Rattle.script_lines.specs.declared.replies.Cause.{Cause}
+use Rattle.rehearsal.specs.Scene.{Scene}
+use Rattle.rehearsal.specs.Texts.{refusal}
+use Rattle.rehearsal.specs.Acts.{Plays, Refuses}
+
+-- how far a text goes: to the end of the script, to a line that is refused, or through some lines
+pub data Extent : Type 0 where
+  Whole : Extent
+  Refused : Extent
+  Front : Extent
+
+-- what may be written from these lines on, where it ends before the first of them is carried out
+abbrev pub Ends : ℕ → Scene → List (List ℕ) → List ℕ → Extent → Type 0
+Ends number s lines out Front = out ≡ []
+Ends number s [] out Whole = out ≡ []
+Ends number s (line ∷ lines) out Whole = ⊥
+Ends number s [] out Refused = ⊥
+Ends number s (line ∷ lines) out Refused = (c : Cause) × Refuses s line c × (out ≡ refusal number c)
+
+-- what may be written for these lines, of which the first has this number
+abbrev pub Runs : ℕ → Scene → List (List ℕ) → List ℕ → Extent → Type 0
+Runs number s [] out extent = Ends number s [] out extent
+Runs number s (line ∷ lines) out extent =
+    Ends number s (line ∷ lines) out extent
+    ⊎ ((reply rest : List ℕ) × (next : Scene) × Plays s line reply next × Runs (number + 1) next lines rest extent × (out ≡ reply ++ rest))

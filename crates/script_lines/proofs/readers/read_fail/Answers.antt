@@ -1,0 +1,8 @@
+use Rattle.std.proofs.Common.{List, ℕ, sym, subst}
+use Rattle.script_lines.specs.Script.{words}
+use Rattle.script_lines.specs.Commands.{IsTicket}
+use Rattle.script_lines.proofs.Forms.{no_fail}
+use Rattle.script_lines.proofs.readers.read_fail.Goals as goal
+
+pub returns-in-None : goal.returns-in-None
+returns-in-None c = no_fail (words c.args.line.now) c.requires.verb_is (λ e t h. (rw c.in-None.is at c.ticket_of.ensures) e t (subst (λ (l : List ℕ). IsTicket l e t) (sym c.word_at.ensures) h.ticket_is))
