@@ -18,3 +18,8 @@ pub mod Bytes
 pub mod Splits
 pub mod Viable
 pub mod Inside
+pub mod Placed
+pub mod Escapes
+pub mod NamesAt
+pub mod Places
+pub mod Explained

@@ -2,10 +2,12 @@
 #![tactic(auto)]
 
 mod buffer;
+mod laws;
 mod number;
 mod open_members;
 mod reader;
 mod refusal;
 mod string;
 
+pub use laws::fault_is_one;
 pub use reader::read;

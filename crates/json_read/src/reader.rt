@@ -2,6 +2,7 @@ ghost use Rattle.std.specs.Prelude.{◌≡◌, [], ◌∷◌, ◌++◌, ◌<◌,
 ghost use Rattle.json_read.specs.Machine as spec;
 ghost use Rattle.json_value.specs.Grammar as grammar;
 ghost use Rattle.json_value.specs.Grammar.{IsText, strict};
+ghost use Rattle.json_read.specs.Faults.{Explains};
 ghost use Rattle.json_read.specs.View.{state_of, frames_of};
 ghost use Rattle.json_read.specs.Left.{HoldsText};
 ghost use Rattle.json_read.specs.declared.reader.Mode.TheVariants as modes;
@@ -460,6 +461,8 @@ pub fn read(alloc: Global, bytes: &[u8]) -> Result<Json, JsonFault>
     ensures found { IfOk result (λ v. IsText strict v bytes.now) }
     // The value of a text is read, unless memory runs out.
     ensures only { (v : Json) → IsText strict v bytes.now → spec.Reads (Ok v) result }
+    // Which fault it is.
+    ensures fault { IfErr result (Explains bytes.now) }
 {
     all(alloc, bytes)
 }
