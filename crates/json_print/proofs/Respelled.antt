@@ -168,4 +168,4 @@ chars_again cut off _ _ (wide s t w is chars) = then_wide s t is (chars_again cu
 chars_again cut off _ _ (short_escape b c t w is chars) = then_byte c t (short_ascii b c is) (chars_again cut off t w chars)
 chars_again cut off _ _ (escape_of u ds t w is hi lo chars) = then_unit u ds t is hi lo (chars_again cut off t w chars)
 chars_again cut off _ _ (pair_escape u v ds es t w is js hi lo chars) = then_wide (encode_utf8 (join u v)) t (wide_join u v hi lo) (chars_again cut off t w chars)
-chars_again cut off _ _ (cut_escape u ds t w on is lo chars) = let e : false ≡ true = sym off ∙ on in absurd cc
+chars_again cut off _ _ (cut_escape a b c x y z t w on hx hy hz lo chars) = let e : false ≡ true = sym off ∙ on in absurd cc
