@@ -12,8 +12,8 @@ mod readers;
 mod replies;
 
 pub use commands::{Command, read_command};
-pub use laws::one_reading;
 pub use fields::number;
+pub use laws::one_reading;
 pub use lines::{first_line, is_quiet};
 pub use replies::{
     Cause, bypass_line, epoch_line, hit_line, miss_line, refused_line, settled_line, tally_line,
