@@ -6,3 +6,6 @@ mod read;
 mod rules;
 
 pub use judge::verdict;
+
+#[cfg(test)]
+mod tests;
