@@ -12,7 +12,7 @@ use Rattle.json_value.specs.Grammar.{strict}
 use Rattle.json_value.specs.Strings.{hex_digit}
 use Rattle.json_read.specs.Faults.{lone}
 use Rattle.json_read.specs.Scan.{is_cut, hex_by, hex_scan, scan}
-use Rattle.json_read.specs.Steps.{run, on_step}
+use Rattle.exact_read.specs.Steps.{run, on_step}
 use Rattle.json_read.specs.Machine.{Frames, State, str_by, naming_by, step_by, step}
 
 abbrev pub AreBytes : List ℕ → Type 0

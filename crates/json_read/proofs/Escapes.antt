@@ -12,10 +12,10 @@ use Rattle.json_read.specs.declared.string.Quad.TheVariants as q
 use Rattle.json_value.specs.Strings.{hex_digit, is_high, is_low, four_digits, join, IsUnit, digits}
 use Rattle.json_read.specs.Faults.{lone, InString, HighAt, LowAt}
 use Rattle.json_read.specs.Scan.{Scanned, with, scan, plain_scan, escape_scan, unit_scan, hex_by, hex_scan, slash_scan, letter_scan, may_be_low, pair_scan, low_scan, low_by}
-use Rattle.json_read.specs.Steps.{run}
+use Rattle.exact_read.specs.Steps.{run}
 use Rattle.json_read.specs.Machine.{Frames, State, step, start}
-use Rattle.json_read.proofs.FirstFault.{ok_is, differ}
-use Rattle.json_read.proofs.Splits.{run_one, run_split}
+use Rattle.exact_read.proofs.Machines.{ok_is, differ}
+use Rattle.exact_read.proofs.Machines.{run_one, run_split}
 use Rattle.json_read.proofs.TextsGo.{heads, digit_steps, high_not_low}
 use Rattle.json_read.proofs.Inside.{Inner, step_inside, refused_inside}
 use Rattle.json_read.proofs.Placed.{Stand, Standing, goes_to, refuses_by, goes_on_not, run_to, stops_at, plain_standing}

@@ -13,7 +13,7 @@ use Rattle.json_read.specs.declared.reader.Mode.{Mode}
 use Rattle.json_read.specs.declared.reader.Mode.TheVariants as m
 use Rattle.json_value.specs.Grammar.{Rules, strict, IsText, IsViable}
 use Rattle.json_read.specs.Faults.{lone, deeper, any_names, StopsAt, SequenceAt, HighAt, LowAt, NameAt, SurrogateAt, NoRule, MalformedAt, Explains}
-use Rattle.json_read.specs.Steps.{run, on_step}
+use Rattle.exact_read.specs.Steps.{run, on_step}
 use Rattle.json_read.specs.Numbers.{may_end}
 use Rattle.json_read.specs.Machine.{Frames, State, Outcome, step_by, step, start, finish, finish_by, number_end, placed, whole, read_of, Reads}
 use Rattle.json_read.proofs.Frames.{Left}
@@ -21,8 +21,8 @@ use Rattle.json_read.proofs.Laxer.{Laxer, lone_deeper, lone_any_names, run_agree
 use Rattle.json_read.proofs.Judged.{Fits, StillFits, Judged, GoesOn, step_by_judged, step_by_fits}
 use Rattle.json_read.proofs.Places.{OutcomeAt, refused_at}
 use Rattle.json_read.proofs.Whole.{Valid, sound, goes, keeps, ends, start_text, text_start, read_only}
-use Rattle.json_read.proofs.FirstFault.{ok_is, err_is, differ, Refused, refused, run_sound, run_keeps, reached_is_viable, refused_is_not_viable}
-use Rattle.json_read.proofs.Splits.{run_both}
+use Rattle.exact_read.proofs.Machines.{ok_is, err_is, differ, Refused, refused, run_sound, run_keeps, reached_is_viable, refused_is_not_viable}
+use Rattle.exact_read.proofs.Machines.{run_both}
 use Rattle.json_read.proofs.Viable.{viable_runs, runs_viable, after_viable, fewer_viable}
 use Rattle.json_read.proofs.Placed.{sequence_standing, wide_refusal}
 use Rattle.json_read.proofs.Escapes.{high_standing, waiting_refusal, low_refusal}

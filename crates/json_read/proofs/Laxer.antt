@@ -12,7 +12,7 @@ use Rattle.json_read.specs.declared.string.Progress.TheVariants as s
 use Rattle.json_value.specs.Grammar.{Rules, is_blank, has}
 use Rattle.json_read.specs.Scan.{Scanned, scan}
 use Rattle.json_read.specs.Faults.{lone, deeper, any_names}
-use Rattle.json_read.specs.Steps.{run, on_step}
+use Rattle.exact_read.specs.Steps.{run, on_step}
 use Rattle.json_read.specs.Machine.{Frames, Pairs, State, Outcome, to, open_by, begin, value_step, first_step, str_by, named, naming_by, step_by, step}
 
 -- the second rules allow whatever the first do

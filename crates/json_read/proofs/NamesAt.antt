@@ -22,10 +22,10 @@ use Rattle.json_read.specs.Faults.{lone, any_names, AtName, NameAt}
 use Rattle.json_read.specs.Left.{TextLeft}
 use Rattle.json_read.specs.Numbers.{number_next, may_end}
 use Rattle.json_read.specs.Scan.{Scanned, scan, plain_scan, escape_scan, hex_scan, slash_scan, letter_scan, low_scan, wide_scan, tail_low, tail_high}
-use Rattle.json_read.specs.Steps.{run, on_step}
+use Rattle.exact_read.specs.Steps.{run, on_step}
 use Rattle.json_read.specs.Machine.{Frames, Pairs, State, Outcome, to, letters, begin, value_step, first_step, after_by, after_step, word_step, number_go, number_step, str_by, first_name_step, next_name_step, named, naming_by, colon_step, step_by, step, start}
-use Rattle.json_read.proofs.FirstFault.{err, ok_is, err_is, differ}
-use Rattle.json_read.proofs.Splits.{run_one, run_split}
+use Rattle.exact_read.proofs.Machines.{err, ok_is, err_is, differ}
+use Rattle.exact_read.proofs.Machines.{run_one, run_split}
 use Rattle.json_read.proofs.Viable.{runs_valid, viable_after}
 use Rattle.json_read.proofs.TextsGo.{IsPart, ScanGoes, GoesOn, IsDone, scan_goes, heads}
 use Rattle.json_read.proofs.Complete.{IsValid}

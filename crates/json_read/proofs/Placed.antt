@@ -17,10 +17,10 @@ use Rattle.json_value.specs.Grammar.{IsViable}
 use Rattle.json_read.specs.Faults.{lone, InString, SequenceAt, HighAt, LowAt}
 use Rattle.json_read.specs.Left.{Tails}
 use Rattle.json_read.specs.Scan.{Scanned, lead, with, wide_by, scan, plain_scan, escape_scan, unit_scan, hex_scan, hex_by, is_cut, slash_scan, letter_scan, may_be_low, pair_scan, low_scan, low_by, wide_scan, wide_next, tail_low, tail_high}
-use Rattle.json_read.specs.Steps.{run}
+use Rattle.exact_read.specs.Steps.{run}
 use Rattle.json_read.specs.Machine.{Frames, State, Outcome, step_by, step, start}
-use Rattle.json_read.proofs.FirstFault.{ok_is, err_is, differ}
-use Rattle.json_read.proofs.Splits.{run_one, run_split}
+use Rattle.exact_read.proofs.Machines.{ok_is, err_is, differ}
+use Rattle.exact_read.proofs.Machines.{run_one, run_split}
 use Rattle.json_read.proofs.Viable.{runs_valid, viable_after}
 use Rattle.json_read.proofs.Wides.{WideTails, wide_tails}
 use Rattle.json_read.proofs.TextsGo.{IsPart, tail_holds, heads, lead_big, plain_steps, wide_steps, digit_steps, high_not_low}

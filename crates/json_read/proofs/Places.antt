@@ -24,15 +24,15 @@ use Rattle.json_read.specs.Faults.{lone, any_names, InString, AtName, SequenceAt
 use Rattle.json_read.specs.Left.{OneByte, Tails, Digits, TextLeft}
 use Rattle.json_read.specs.Numbers.{number_start, number_next, may_end}
 use Rattle.json_read.specs.Scan.{Scanned, lead, with, wide_by, plain_scan, short_by, escape_scan, unit_scan, hex_by, is_cut, hex_scan, slash_scan, letter_scan, may_be_low, pair_scan, low_by, low_scan, wide_next, wide_scan, tail_low, tail_high, scan}
-use Rattle.json_read.specs.Steps.{run, on_step}
+use Rattle.exact_read.specs.Steps.{run, on_step}
 use Rattle.json_read.specs.Machine.{Frames, Pairs, State, Outcome, to, letters, meant, pick, beginnings, number_by, open_by, begin, value_step, first_step, after_by, after_step, word_step, number_go, number_step, str_by, first_name_step, next_name_step, named, naming_by, colon_step, step_by, step, start}
 use Rattle.json_read.proofs.Texts.{IsScanSound, scan_sound}
 use Rattle.json_read.proofs.Wides.{one_tail, two_tails, three_tails, tails_wide}
 use Rattle.json_read.proofs.TextsEnd.{LowDigited, lowest}
 use Rattle.json_read.proofs.TextsGo.{IsPart, tail_holds}
-use Rattle.json_read.proofs.FirstFault.{ok_is}
+use Rattle.exact_read.proofs.Machines.{ok_is}
 use Rattle.json_read.proofs.Laxer.{lone_any_names, run_agrees}
-use Rattle.json_read.proofs.Splits.{run_both}
+use Rattle.exact_read.proofs.Machines.{run_both}
 use Rattle.json_read.proofs.Viable.{runs_valid, after_viable}
 use Rattle.json_read.proofs.Complete.{IsValid}
 use Rattle.json_read.proofs.Inside.{Inner, value, name, inside, goes_inside, step_inside}

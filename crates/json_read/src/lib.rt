@@ -8,6 +8,8 @@ mod open_members;
 mod reader;
 mod refusal;
 mod string;
+#[cfg(test)]
+mod tests;
 
 pub use laws::fault_is_one;
 pub use reader::read;
