@@ -46,39 +46,12 @@ Step old (Look pass id asks now) OutOfMemory new = new ≡ old
 Step old (Settle permit report) (Closed settled) new = Settles old permit report settled new
 Step old (Invalidate who target) (Voided answer) new = Voids old who target answer new
 Step old Tally (Told answer) new = (answer ≡ tally_of old) × (new ≡ old)
--- no other answer comes
-Step old (Begin who) (Looked answers) new = ⊥
-Step old (Begin who) (Closed settled) new = ⊥
-Step old (Begin who) (Voided answer) new = ⊥
-Step old (Begin who) (Told answer) new = ⊥
-Step old (Begin who) OutOfMemory new = ⊥
-Step old (Look pass id asks now) (Begun started) new = ⊥
-Step old (Look pass id asks now) (Closed settled) new = ⊥
-Step old (Look pass id asks now) (Voided answer) new = ⊥
-Step old (Look pass id asks now) (Told answer) new = ⊥
-Step old (Settle permit report) (Begun started) new = ⊥
-Step old (Settle permit report) (Looked answers) new = ⊥
-Step old (Settle permit report) (Voided answer) new = ⊥
-Step old (Settle permit report) (Told answer) new = ⊥
-Step old (Settle permit report) OutOfMemory new = ⊥
-Step old (Invalidate who target) (Begun started) new = ⊥
-Step old (Invalidate who target) (Looked answers) new = ⊥
-Step old (Invalidate who target) (Closed settled) new = ⊥
-Step old (Invalidate who target) (Told answer) new = ⊥
-Step old (Invalidate who target) OutOfMemory new = ⊥
-Step old Tally (Begun started) new = ⊥
-Step old Tally (Looked answers) new = ⊥
-Step old Tally (Closed settled) new = ⊥
-Step old Tally (Voided answer) new = ⊥
-Step old Tally OutOfMemory new = ⊥
+Step old call answer new = ⊥
 
 -- what has to hold where the call is made: a permit may be settled, and its report is in range
 abbrev pub MayCall : State → Call → Type 0
 MayCall old (Settle permit report) = MaySettle old permit × IsInRange report
-MayCall old (Begin who) = Unit {0}
-MayCall old (Look pass id asks now) = Unit {0}
-MayCall old (Invalidate who target) = Unit {0}
-MayCall old Tally = Unit {0}
+MayCall old other = Unit {0}
 
 -- none of the answers is want of memory
 abbrev pub FoundMemory : List Answer → Type 0

@@ -28,9 +28,7 @@ pub record Started : Type 0 where
 abbrev pub start_from : ℕ → List Event → ℕ → Option Started
 start_from at [] t = None
 start_from at (Start who ticket key id now ∷ rest) t = if ticket == t then Some (record { who = who; key = key; id = id; since = now; at = at }) else start_from (at + 1) rest t
-start_from at (Lookup who key id now hit ∷ rest) t = start_from (at + 1) rest t
-start_from at (Settle who ticket got out ∷ rest) t = start_from (at + 1) rest t
-start_from at (Invalidate who target count ∷ rest) t = start_from (at + 1) rest t
+start_from at (other ∷ rest) t = start_from (at + 1) rest t
 
 -- the Start of the ticket
 abbrev pub start_of : List Event → ℕ → Option Started
@@ -38,9 +36,7 @@ start_of J t = start_from 0 J t
 
 abbrev pub is_start : Event → Bool
 is_start (Start who ticket key id now) = true
-is_start (Lookup who key id now hit) = false
-is_start (Settle who ticket got out) = false
-is_start (Invalidate who target count) = false
+is_start other = false
 
 -- the number of Starts, which is the next ticket
 abbrev pub starts : List Event → ℕ
@@ -49,9 +45,7 @@ starts J = count_by is_start J
 -- the event settles the ticket
 abbrev pub settles : ℕ → Event → Bool
 settles t (Settle who ticket got out) = ticket == t
-settles t (Start who ticket key id now) = false
-settles t (Lookup who key id now hit) = false
-settles t (Invalidate who target count) = false
+settles t other = false
 
 -- the ticket has a Start and no Settle
 pub record IsOpen (J : List Event) (t : ℕ) (s : Started) : Type 0 where
@@ -61,9 +55,7 @@ pub record IsOpen (J : List Event) (t : ℕ) (s : Started) : Type 0 where
 -- a Start whose ticket J does not settle
 abbrev pub is_pending : List Event → Event → Bool
 is_pending J (Start who ticket key id now) = not (list_any (settles ticket) J)
-is_pending J (Lookup who key id now hit) = false
-is_pending J (Settle who ticket got out) = false
-is_pending J (Invalidate who target count) = false
+is_pending J other = false
 
 -- the number of open tickets. Each has room reserved for the event that settles it
 abbrev pub reserved : List Event → ℕ
@@ -71,16 +63,9 @@ reserved J = count_by (is_pending J) J
 
 -- PIECES. A fetch that was settled as Stored is kept (RFC 9111, section 3: storing responses).
 
-abbrev pub size_of : Option Got → ℕ
-size_of None = 0
-size_of (Some got) = got.size
-
 abbrev pub stored_size : Event → ℕ
-stored_size (Settle who ticket got outcome.Stored) = size_of got
-stored_size (Settle who ticket got out) = 0
-stored_size (Start who ticket key id now) = 0
-stored_size (Lookup who key id now hit) = 0
-stored_size (Invalidate who target count) = 0
+stored_size (Settle who ticket (Some got) outcome.Stored) = got.size
+stored_size other = 0
 
 -- the sizes of the Stored settles
 abbrev pub bytes : List Event → ℕ
@@ -109,10 +94,7 @@ kept_by got s = record {
 -- what the event keeps, where it is a Stored settle
 abbrev pub kept_of : List Event → Event → Option Kept
 kept_of J (Settle who ticket (Some got) outcome.Stored) = option_map (kept_by got) (start_of J ticket)
-kept_of J (Settle who ticket got out) = None
-kept_of J (Start who ticket key id now) = None
-kept_of J (Lookup who key id now hit) = None
-kept_of J (Invalidate who target count) = None
+kept_of J other = None
 
 -- what is kept at a position
 abbrev pub kept_at : List Event → ℕ → Option Kept
@@ -124,9 +106,7 @@ kept_at J q = option_and_then (kept_of J) (slice_get J q)
 -- the event is an Invalidate that covers the key and tags
 abbrev pub IsCover : Event → Key → Tags → Type 0
 IsCover (Invalidate who target count) key tags = Covers target key tags
-IsCover (Lookup who other id now hit) key tags = ⊥
-IsCover (Start who ticket other id now) key tags = ⊥
-IsCover (Settle who ticket got out) key tags = ⊥
+IsCover other key tags = ⊥
 
 -- what stands at p is an Invalidate that covers the key and tags
 abbrev pub CoveredAt : List Event → Key → Tags → ℕ → Type 0

@@ -34,8 +34,14 @@ fn tags_keep_their_first_places(rt: HostRuntime) -> Result<(), Fail> {
         ("a", "a "),
         ("", "malformed"),
         ("a  b", "malformed"),
-        ("a b c d e f g h i j k l m n o p", "a b c d e f g h i j k l m n o p "),
-        ("a b c d e f g h i j k l m n o p a p", "a b c d e f g h i j k l m n o p "),
+        (
+            "a b c d e f g h i j k l m n o p",
+            "a b c d e f g h i j k l m n o p ",
+        ),
+        (
+            "a b c d e f g h i j k l m n o p a p",
+            "a b c d e f g h i j k l m n o p ",
+        ),
         ("a b c d e f g h i j k l m n o p a q", "many 17"),
         ("a b c d e f g h i j k l m n o p  q", "malformed"),
         (too_long.as_str(), "malformed"),

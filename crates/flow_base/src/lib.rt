@@ -18,3 +18,6 @@ pub use sink::{MemSink, Sink, put_all};
 pub use source::{MemSource, Source};
 pub use take::{TakeFault, take_all};
 pub use text::Text;
+
+#[cfg(test)]
+mod tests;

@@ -1,7 +1,8 @@
 -- On bytes, an unfinished escape of a low surrogate makes no difference.
-use Rattle.std.proofs.Common.{◌≡◌, ℕ, ◌+◌, ◌<◌, Bool, true, false, List, [], ◌∷◌, Result, Ok, Err, refl, sym, ap, ◌∙◌, arith}
+use Rattle.std.proofs.Common.{◌≡◌, ℕ, suc, ◌+◌, ◌<◌, Bool, true, false, List, [], ◌∷◌, get_or, Fits, w8, Result, Ok, Err, refl, sym, ap, ◌∙◌, arith}
 use Rattle.std.specs.Prelude.{◌==◌, ◌&&◌}
 use Rattle.std.proofs.lemmas.Bool.{cond-false, ne_eqb, and_left}
+use Rattle.std.proofs.Math.Facts.{Fits-lt-pow}
 use Rattle.json_read.specs.declared.refusal.Refusal.{Refusal}
 use Rattle.json_read.specs.declared.reader.Mode.{Mode}
 use Rattle.json_read.specs.declared.reader.Mode.TheVariants as m
@@ -11,7 +12,7 @@ use Rattle.json_value.specs.Grammar.{strict}
 use Rattle.json_value.specs.Strings.{hex_digit}
 use Rattle.json_read.specs.Faults.{lone}
 use Rattle.json_read.specs.Scan.{is_cut, hex_by, hex_scan, scan}
-use Rattle.json_read.specs.Steps.{run, on_step}
+use Rattle.exact_read.specs.Steps.{run, on_step}
 use Rattle.json_read.specs.Machine.{Frames, State, str_by, naming_by, step_by, step}
 
 abbrev pub AreBytes : List ℕ → Type 0
@@ -53,3 +54,7 @@ run_same (t ∷ ts) at x are = ap (λ (o : Result State Refusal). on_step (step 
         → on_step (step strict) at o (run (step strict) ts (at + 1)) ≡ on_step (step lone) at o (run (step lone) ts (at + 1))
     go (Ok mid) tail = tail mid
     go (Err why) tail = refl
+
+pub are_bytes : (bs : List ℕ) → ((i : ℕ) → Fits w8 (get_or bs i 0)) → AreBytes bs
+are_bytes [] fits = tt
+are_bytes (b ∷ bs) fits = (Fits-lt-pow (fits 0), are_bytes bs (λ i. fits (suc i)))

@@ -18,9 +18,9 @@ use Rattle.json_value.specs.Grammar.{strict, is_blank, has}
 use Rattle.json_read.specs.Numbers.{number_start, number_next, may_end}
 use Rattle.json_read.specs.Left.{Completes, TextLeft, HoldsText}
 use Rattle.json_read.specs.Scan.{Scanned, scan}
-use Rattle.json_read.specs.Steps.{run, on_step}
+use Rattle.exact_read.specs.Steps.{run, on_step}
 use Rattle.json_read.specs.Machine.{Frames, Pairs, State, Outcome, to, letters, meant, pick, unless_blank, beginnings, number_by, open_by, begin, value_step, first_step, after_by, after_step, word_step, number_go, number_step, str_by, first_name_step, next_name_step, named, naming_by, colon_step, step_by, step}
-use Rattle.json_read.proofs.FirstFault.{ok_is}
+use Rattle.exact_read.proofs.Machines.{ok_is}
 use Rattle.json_read.proofs.Utf8.{plain_holds, more_holds, number_holds}
 
 abbrev StillHolds : Outcome → Type 0

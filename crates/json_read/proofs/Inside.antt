@@ -26,7 +26,7 @@ use Rattle.json_read.specs.Faults.{lone, any_names}
 use Rattle.json_read.specs.Numbers.{number_start, number_next, may_end}
 use Rattle.json_read.specs.Scan.{Scanned, lead, scan, plain_scan, escape_scan, hex_scan, hex_by, is_cut, slash_scan, letter_scan, low_scan, low_by, wide_scan, tail_low, tail_high}
 use Rattle.json_read.specs.Machine.{Frames, Pairs, State, Outcome, to, letters, meant, pick, number_by, open_by, begin, value_step, first_step, after_by, after_step, word_step, number_go, number_step, str_by, first_name_step, next_name_step, naming_by, colon_step, step_by, step}
-use Rattle.json_read.proofs.FirstFault.{err}
+use Rattle.exact_read.proofs.Machines.{err}
 use Rattle.json_read.proofs.TextsGo.{IsPart, tail_holds}
 
 -- whose string is read

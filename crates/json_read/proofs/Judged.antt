@@ -44,19 +44,21 @@ GoesOn o = (next : State) × (o ≡ Ok next)
 
 abbrev pub Judged : (Rules → Outcome) → Outcome → Type 0
 Judged by (Ok next) = Unit {0}
+Judged by (Err e.Memory) = ⊥
 Judged by (Err e.Deep) = GoesOn (by deeper) × (by any_names ≡ Err e.Deep)
 Judged by (Err (e.Twice place)) = GoesOn (by any_names) × (by deeper ≡ Err (e.Twice place))
 Judged by (Err why) = (by deeper ≡ Err why) × (by any_names ≡ Err why)
 
 -- an outcome that no rule decides
 abbrev pub Only : Outcome → Type 0
+Only (Err e.Memory) = ⊥
 Only (Err e.Deep) = ⊥
 Only (Err (e.Twice place)) = ⊥
 Only _ = Unit {0}
 
 only_judged : (o : Outcome) → Only o → Judged (λ r. o) o
 only_judged (Ok next) h = tt
-only_judged (Err e.Memory) h = (refl, refl)
+only_judged (Err e.Memory) h = absurd h
 only_judged (Err e.Syntax) h = (refl, refl)
 only_judged (Err e.Deep) h = absurd h
 only_judged (Err (e.Malformed place)) h = (refl, refl)
@@ -117,7 +119,8 @@ number_go_only fs part text t None = only_branch (may_end part) (after_step fs (
 -- ---- strings
 
 -- a scan never refuses by a rule
-abbrev ScanOnly : Scanned → Type 0
+abbrev pub ScanOnly : Scanned → Type 0
+ScanOnly (Err e.Memory) = ⊥
 ScanOnly (Err e.Deep) = ⊥
 ScanOnly (Err (e.Twice place)) = ⊥
 ScanOnly _ = Unit {0}
@@ -152,7 +155,7 @@ low_only place high (q.One a) text (Some d) = scan_branch (may_be_low (q.Two a d
 low_only place high (q.Two a b) text (Some d) = scan_branch (may_be_low (q.Three a b d)) _ _ tt tt
 low_only place high (q.Three a b c) text (Some d) = scan_branch (is_high high && is_low (four_digits a b c d)) _ _ tt tt
 
-scan_only : (at : ℕ) (part : Part) (text : List ℕ) (b : ℕ) → ScanOnly (scan true at part text b)
+pub scan_only : (at : ℕ) (part : Part) (text : List ℕ) (b : ℕ) → ScanOnly (scan true at part text b)
 unfolding scan plain_scan escape_scan hex_scan slash_scan letter_scan low_scan wide_scan
 scan_only at p.Plain text b = scan_branch (b == 34) _ _ tt (scan_branch (b == 92) _ _ tt (scan_branch (is_plain b) _ _ tt (wide_by_only at text b (lead b))))
 scan_only at (p.Escape place) text b = scan_branch (b == 117) _ _ tt (short_only text (short b))
@@ -165,7 +168,7 @@ scan_only at (p.Wide place tail) text b = scan_branch (within (tail_low tail) (t
 str_only : (fs : Frames) (o : Scanned) → ScanOnly o → Only (str_by fs o)
 str_only fs (Ok (s.Done text)) h = tt
 str_only fs (Ok (s.More part text)) h = tt
-str_only fs (Err e.Memory) h = tt
+str_only fs (Err e.Memory) h = absurd h
 str_only fs (Err e.Syntax) h = tt
 str_only fs (Err e.Deep) h = absurd h
 str_only fs (Err (e.Malformed place)) h = tt
@@ -180,7 +183,7 @@ naming_judged fs ms place (Ok (s.Done name)) h = by_test (has ms name) refl
     by_test false is = tt
     by_test true is = ((record { mode = m.Colon ms name; frames = fs }, refl), rw is refl)
 naming_judged fs ms place (Ok (s.More part text)) h = tt
-naming_judged fs ms place (Err e.Memory) h = (refl, refl)
+naming_judged fs ms place (Err e.Memory) h = absurd h
 naming_judged fs ms place (Err e.Syntax) h = (refl, refl)
 naming_judged fs ms place (Err e.Deep) h = absurd h
 naming_judged fs ms place (Err (e.Malformed at)) h = (refl, refl)

@@ -1,5 +1,5 @@
 -- What the rules allow, laxer rules allow.
-use Rattle.std.proofs.Common.{◌≡◌, ℕ, ◌<◌, ◌≤◌, Bool, true, false, cond, List, [], ◌∷◌, length, Result, Ok, Err, refl, ap, subst, ◌∙◌, arith}
+use Rattle.std.proofs.Common.{◌≡◌, ℕ, ◌+◌, ◌<◌, ◌≤◌, Bool, true, false, cond, List, [], ◌∷◌, length, Result, Ok, Err, refl, ap, subst, ◌∙◌, arith}
 use Rattle.std.specs.Prelude.{nat_lt, ◌==◌, ◌&&◌}
 use Rattle.std.proofs.lemmas.Bool.{ltb-true, lt-ltb}
 use Rattle.json_read.specs.declared.refusal.Refusal.{Refusal}
@@ -11,7 +11,9 @@ use Rattle.json_read.specs.declared.string.Part.{Part}
 use Rattle.json_read.specs.declared.string.Progress.TheVariants as s
 use Rattle.json_value.specs.Grammar.{Rules, is_blank, has}
 use Rattle.json_read.specs.Scan.{Scanned, scan}
-use Rattle.json_read.specs.Machine.{Frames, Pairs, State, to, open_by, begin, value_step, first_step, str_by, named, naming_by, step_by, step}
+use Rattle.json_read.specs.Faults.{lone, deeper, any_names}
+use Rattle.exact_read.specs.Steps.{run, on_step}
+use Rattle.json_read.specs.Machine.{Frames, Pairs, State, Outcome, to, open_by, begin, value_step, first_step, str_by, named, naming_by, step_by, step}
 
 -- the second rules allow whatever the first do
 pub record Laxer (a b : Rules) : Type 0 where
@@ -86,3 +88,20 @@ step_by_agrees a b at (m.Colon ms n) fs t laxer = same _
 pub step_agrees : (a b : Rules) (at : ℕ) (x : State) (t : ℕ) → Laxer a b → Agrees (step a at x t) (step b at x t)
 unfolding step
 step_agrees a b at x t laxer = step_by_agrees a b at x.mode x.frames t laxer
+
+-- laxer rules run as far
+pub run_agrees : (a b : Rules) → Laxer a b → (ts : List ℕ) (at : ℕ) (x y : State) → run (step a) ts at x ≡ Ok y → run (step b) ts at x ≡ Ok y
+unfolding run
+run_agrees a b laxer [] at x y is = is
+run_agrees a b laxer (t ∷ ts) at x y is = go (step a at x t) refl (step_agrees a b at x t laxer) (λ mid h. run_agrees a b laxer ts (at + 1) mid y h) is
+  where
+    go : (o : Outcome) → step a at x t ≡ o → Agrees o (step b at x t) → ((mid : State) → run (step a) ts (at + 1) mid ≡ Ok y → run (step b) ts (at + 1) mid ≡ Ok y)
+        → on_step (step a) at o (run (step a) ts (at + 1)) ≡ Ok y → on_step (step b) at (step b at x t) (run (step b) ts (at + 1)) ≡ Ok y
+    go (Ok mid) same agrees tail is = rw agrees (tail mid is)
+    go (Err why) same agrees tail is = absurd cc
+
+pub lone_deeper : Laxer lone deeper
+lone_deeper = record { deeper = omega arith; names = λ x h. h; same_cut = refl }
+
+pub lone_any_names : Laxer lone any_names
+lone_any_names = record { deeper = omega arith; names = λ x h. refl; same_cut = refl }

@@ -1,5 +1,4 @@
 pub mod Runs
-pub mod FirstFault
 pub mod Wides
 pub mod NumberTexts
 pub mod Texts
@@ -15,6 +14,10 @@ pub mod Names
 pub mod PlainRuns
 pub mod Held
 pub mod Bytes
-pub mod Splits
 pub mod Viable
 pub mod Inside
+pub mod Placed
+pub mod Escapes
+pub mod NamesAt
+pub mod Places
+pub mod Explained

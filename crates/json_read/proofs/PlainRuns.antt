@@ -12,10 +12,10 @@ use Rattle.json_read.specs.declared.string.Part.TheVariants as p
 use Rattle.json_value.specs.Strings.{within, is_plain}
 use Rattle.json_value.specs.Grammar.{strict}
 use Rattle.json_read.specs.Scan.{scan, with, AllPlain}
-use Rattle.json_read.specs.Steps.{run, on_step}
+use Rattle.exact_read.specs.Steps.{run, on_step}
 use Rattle.json_read.specs.Machine.{State, Frames, Pairs, step, str_by, naming_by}
 use Rattle.json_read.proofs.TextsGo.{plain_steps}
-use Rattle.json_read.proofs.FirstFault.{ok_is}
+use Rattle.exact_read.proofs.Machines.{run_both}
 
 plain_scans : (at : ℕ) (text : List ℕ) (b : ℕ) → is_plain b ≡ true → scan false at p.Plain text b ≡ with text (b ∷ [])
 unfolding scan
@@ -39,19 +39,6 @@ naming_runs [] at ms place text fs all = ap (λ (k : List ℕ). Ok (record { mod
 naming_runs (t ∷ ts) at ms place text fs all =
     ap (λ o. on_step (step strict) at (naming_by true fs ms place o) (run (step strict) ts (at + 1))) (plain_scans at text t all.0)
     ∙ (naming_runs ts (at + 1) ms place (text ++ (t ∷ [])) fs all.1 ∙ ap (λ (k : List ℕ). Ok (record { mode = m.Naming ms place p.Plain k; frames = fs })) (append_assoc text (t ∷ []) ts))
-
-pub run_on : (a b : List ℕ) (at : ℕ) (x y : State) → run (step strict) a at x ≡ Ok y → run (step strict) (a ++ b) at x ≡ run (step strict) b (at + length a) y
-unfolding run
-run_on [] b at x y is = go (ok_is x y is)
-  where
-    go : x ≡ y → run (step strict) b at x ≡ run (step strict) b (at + 0) y
-    go same = ap (λ (k : State). run (step strict) b at k) same ∙ ap (λ (n : ℕ). run (step strict) b n y) (omega arith)
-run_on (t ∷ a) b at x y is = go (step strict at x t) refl (λ mid h. run_on a b (at + 1) mid y h) is
-  where
-    go : (o : Result State Refusal) → step strict at x t ≡ o → ((mid : State) → run (step strict) a (at + 1) mid ≡ Ok y → run (step strict) (a ++ b) (at + 1) mid ≡ run (step strict) b (at + 1 + length a) y)
-        → on_step (step strict) at o (run (step strict) a (at + 1)) ≡ Ok y → on_step (step strict) at o (run (step strict) (a ++ b) (at + 1)) ≡ run (step strict) b (at + suc (length a)) y
-    go (Ok mid) same tail e = tail mid e ∙ ap (λ (n : ℕ). run (step strict) b n y) (omega arith)
-    go (Err why) same tail e = absurd cc
 
 all_more : (xs : List ℕ) (b : ℕ) → AllPlain xs → is_plain b ≡ true → AllPlain (xs ++ (b ∷ []))
 all_more [] b all is = (is, tt)
@@ -85,7 +72,7 @@ goes_further bytes i n x y total le taken so_far =
     let long : length (take n (drop i bytes)) ≡ n = length-take-le n (drop i bytes) (omega (arith, length-drop i bytes)) in
     let later : drop n (drop i bytes) ≡ drop (i + n) bytes = drop-drop n i bytes in
     let split : take n (drop i bytes) ++ drop n (drop i bytes) ≡ drop i bytes = take-append-drop n (drop i bytes) in
-    let one : run (step strict) (take n (drop i bytes) ++ drop n (drop i bytes)) i x ≡ run (step strict) (drop n (drop i bytes)) (i + length (take n (drop i bytes))) y = run_on (take n (drop i bytes)) (drop n (drop i bytes)) i x y (taken i) in
+    let one : run (step strict) (take n (drop i bytes) ++ drop n (drop i bytes)) i x ≡ run (step strict) (drop n (drop i bytes)) (i + length (take n (drop i bytes))) y = run_both (step strict) (take n (drop i bytes)) (drop n (drop i bytes)) i x y (taken i) in
     let here : run (step strict) (drop n (drop i bytes)) (i + n) y ≡ run (step strict) (drop i bytes) i x =
     ap (λ (k : ℕ). run (step strict) (drop n (drop i bytes)) (i + k) y) (sym long) ∙ (sym one ∙ ap (λ (k : List ℕ). run (step strict) k i x) split) in
     ap (λ (k : List ℕ). run (step strict) k (i + n) y) (sym later) ∙ (here ∙ so_far)

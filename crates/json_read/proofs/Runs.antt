@@ -8,7 +8,7 @@ use Rattle.json_read.specs.declared.refusal.Refusal.TheVariants as e
 use Rattle.json_value.specs.declared.fault.JsonFault.{JsonFault}
 use Rattle.json_value.specs.declared.fault.JsonFault.TheVariants as faults
 use Rattle.json_read.specs.Machine.{State, step, placed, whole, finish, Reads}
-use Rattle.json_read.specs.Steps.{run}
+use Rattle.exact_read.specs.Steps.{run}
 use Rattle.json_value.specs.Grammar.{strict}
 
 pub goes_on : (bytes : List ℕ) (i : ℕ) (s t : State) (total : Result State (Refusal × ℕ)) → i < length bytes → step strict i s (get_or bytes i 0) ≡ Ok t

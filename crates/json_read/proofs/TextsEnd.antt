@@ -178,13 +178,13 @@ d_digit K w h = record { byte = 100; value = 13; after = w; parts = refl; is = r
 is_low_of : (u : ℕ) → 56320 ≤ u → u ≤ 57343 → is_low u ≡ true
 is_low_of u a b = and_from _ _ (le-leb 56320 u a) (le-leb u 57343 b)
 
-record LowDigited (quad : Quad) (l : List ℕ) : Type 0 where
-  unit : ℕ
-  bytes : List ℕ
-  digits : Digits quad unit l bytes
-  low : is_low unit ≡ true
+pub record LowDigited (quad : Quad) (l : List ℕ) : Type 0 where
+  pub unit : ℕ
+  pub bytes : List ℕ
+  pub digits : Digits quad unit l bytes
+  pub low : is_low unit ≡ true
 
-lowest : (quad : Quad) (l : List ℕ) → may_be_low quad ≡ true → LowDigited quad l
+pub lowest : (quad : Quad) (l : List ℕ) → may_be_low quad ≡ true → LowDigited quad l
 lowest q.Nothing l h = record { unit = four_digits 13 12 0 0; bytes = 100 ∷ (99 ∷ (48 ∷ (48 ∷ l))); digits = d_digit _ (99 ∷ (48 ∷ (48 ∷ l))) (c_digit _ (48 ∷ (48 ∷ l)) (zero_digit _ (48 ∷ l) (zero_digit _ l (refl, refl)))); low = refl }
 lowest (q.One a) l h =
     let a_is : a ≡ 13 = eqb-true a 13 h in

@@ -99,7 +99,7 @@ pub plain_steps : (at : ℕ) (text : List ℕ) (c : ℕ) → (c == 34) ≡ false
 unfolding plain_scan
 plain_steps at text c a b h = cond-false (c == 34) _ _ a ∙ (cond-false (c == 92) _ _ b ∙ cond-true (is_plain c) _ _ h)
 
-wide_steps : (at : ℕ) (text : List ℕ) (c : ℕ) (tail : Tail) → (c == 34) ≡ false → (c == 92) ≡ false → is_plain c ≡ false → lead c ≡ Some tail → plain_scan at text c ≡ Ok (s.More (p.Wide at tail) (text ++ c ∷ []))
+pub wide_steps : (at : ℕ) (text : List ℕ) (c : ℕ) (tail : Tail) → (c == 34) ≡ false → (c == 92) ≡ false → is_plain c ≡ false → lead c ≡ Some tail → plain_scan at text c ≡ Ok (s.More (p.Wide at tail) (text ++ c ∷ []))
 unfolding plain_scan
 wide_steps at text c tail a b h is = cond-false (c == 34) _ _ a ∙ (cond-false (c == 92) _ _ b ∙ (cond-false (is_plain c) _ _ h ∙ ap (wide_by at text c) is))
 
@@ -194,7 +194,7 @@ escape_goes cuts place text _ _ b w f (cut_escape a c d x y z t w' on hx hy hz l
     lettered cuts place text t b w f (x ∷ (y ∷ (z ∷ (256 ∷ w')))) (inr (on, w', three_digits a c d x y z w' hx hy hz lo, chars)) cut e
 
 -- the two kinds differ
-high_not_low : (u : ℕ) → is_high u ≡ true → is_low u ≡ true → ⊥
+pub high_not_low : (u : ℕ) → is_high u ≡ true → is_low u ≡ true → ⊥
 high_not_low u hi lo =
     let h = and_parts (nat_le 55296 u) (nat_le u 56319) hi in
     let l = and_parts (nat_le 56320 u) (nat_le u 57343) lo in
@@ -220,7 +220,7 @@ no_cut : (cut : Bool) (quad : Quad) (b d : ℕ) → hex_digit b ≡ Some d → (
 no_cut cut quad b d is = and_right cut (b == 256 && is_cut quad) (and_left (b == 256) (is_cut quad) (not_256 b d is))
 
 -- a digit is read
-digit_steps : (cut : Bool) (place : ℕ) (quad : Quad) (text : List ℕ) (b d : ℕ) → hex_digit b ≡ Some d → hex_scan cut place quad text b ≡ hex_by place quad text (Some d)
+pub digit_steps : (cut : Bool) (place : ℕ) (quad : Quad) (text : List ℕ) (b d : ℕ) → hex_digit b ≡ Some d → hex_scan cut place quad text b ≡ hex_by place quad text (Some d)
 unfolding hex_scan
 digit_steps cut place quad text b d is = cond-false (cut && (b == 256 && is_cut quad)) _ _ (no_cut cut quad b d is) ∙ ap (hex_by place quad text) is
 

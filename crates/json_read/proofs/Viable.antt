@@ -2,12 +2,12 @@
 use Rattle.std.proofs.Common.{◌≡◌, ℕ, ◌+◌, true, List, ◌++◌, length, Ok, sym, ap, subst, ◌∙◌, arith, append_assoc}
 use Rattle.json_value.specs.declared.tree.Json.{Json}
 use Rattle.json_value.specs.Grammar.{Rules, IsText, IsViable}
-use Rattle.json_read.specs.Steps.{run}
+use Rattle.exact_read.specs.Steps.{run}
 use Rattle.json_read.specs.Machine.{State, step, start}
 use Rattle.json_read.proofs.Frames.{Left}
 use Rattle.json_read.proofs.Whole.{Valid, sound, goes, keeps, ends, start_text, text_start}
-use Rattle.json_read.proofs.FirstFault.{ok_is, run_goes, run_keeps, run_sound, reached_is_viable}
-use Rattle.json_read.proofs.Splits.{run_split, run_both}
+use Rattle.exact_read.proofs.Machines.{ok_is, run_goes, run_keeps, run_sound, reached_is_viable}
+use Rattle.exact_read.proofs.Machines.{run_split, run_both}
 
 pub viable_runs : (r : Rules) (front : List ℕ) → IsViable r front → (s : State) × (run (step r) front 0 start ≡ Ok s)
 viable_runs r front (w, v, text) =

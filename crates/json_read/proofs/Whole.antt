@@ -1,6 +1,6 @@
 -- The reader reads exactly the texts of the grammar.
 use Rattle.std.proofs.Common.{◌≡◌, ℕ, suc, ◌+◌, ◌<◌, ◌≤◌, Bool, true, false, cond, List, [], ◌∷◌, ◌++◌, length, reverse, drop, get_or, Option, Some, None, Result, Ok, Err, refl, sym, ap, subst, ◌∙◌, arith, inl, inr, length-append}
-use Rattle.std.specs.Prelude.{codes, nat_lt, ◌==◌, ◌&&◌, slice_index, IfOk}
+use Rattle.std.specs.Prelude.{codes, nat_lt, ◌==◌, ◌&&◌, slice_index, IfOk, MatchResult}
 use Rattle.std.specs.Str.{bytes_eq}
 use Rattle.std.proofs.Math.Seq.{drop-cons}
 use Rattle.std.proofs.lemmas.Bool.{cond_both, ltb-true, and_right, or_from, false_from_ne_true}
@@ -24,7 +24,7 @@ use Rattle.json_read.specs.declared.string.Progress.TheVariants as s
 use Rattle.json_read.specs.Numbers.{number_start, number_next, may_end}
 use Rattle.json_value.specs.Grammar.{Rules, strict, is_blank, has, Spells, null, yes, no, number, string, empty, list, bare, object, Rest, close, more, Members, shut, another, IsText}
 use Rattle.json_read.specs.Scan.{Scanned, scan}
-use Rattle.json_read.specs.Steps.{run}
+use Rattle.exact_read.specs.Steps.{run}
 use Rattle.json_read.specs.Machine.{Frames, Pairs, State, Outcome, to, letters, meant, pick, unless_blank, beginnings, number_by, open_by, begin, value_step, first_step, after_by, after_step, word_step, number_go, number_step, str_by, first_name_step, next_name_step, named, naming_by, colon_step, step_by, step, start, finish, finish_by, number_end, whole, read_of, Reads}
 use Rattle.json_read.specs.Left.{Completes, TextLeft}
 use Rattle.json_read.proofs.NumberTexts.{number_reads}
@@ -32,7 +32,7 @@ use Rattle.json_read.proofs.TextsGo.{IsPart}
 use Rattle.json_read.proofs.TextsEnd.{ScanKeeps, scan_keeps, text_not_empty, part_ends}
 use Rattle.json_read.proofs.Frames.{room, LeftBy, Left, AfterLeft, ValueLeft, NumberLeft, StrLeft, ColonLeft, NamingLeft, NameLeft, step_sound, IsSound}
 use Rattle.json_read.proofs.Complete.{IsValid, step_goes}
-use Rattle.json_read.proofs.FirstFault.{ok_is, run_sound, run_goes, run_keeps}
+use Rattle.exact_read.proofs.Machines.{ok_is, differ, run_sound, run_goes, run_keeps}
 
 -- ---- each state that a step leads to is valid
 
@@ -358,6 +358,11 @@ pub reads_found : (bytes : List ℕ) (x : Result Json JsonFault) → Reads (read
 reads_found bytes (Ok v) h = read_found strict bytes v h
 reads_found bytes (Err x) h = tt
 
-pub reads_only : (bytes : List ℕ) (x : Result Json JsonFault) → Reads (read_of strict bytes) x → (v : Json) → IsText strict v bytes → Reads (Ok v) x
-reads_only bytes (Ok y) h v t = sym (read_only strict bytes v t) ∙ h
-reads_only bytes (Err x) h v t = λ not. sym (read_only strict bytes v t) ∙ h not
+pub reads_only : (bytes : List ℕ) (x : Result Json JsonFault) → Reads (read_of strict bytes) x → (v : Json) → IsText strict v bytes → MatchResult x (λ w. w ≡ v) (λ f. f ≡ faults.Memory)
+reads_only bytes (Ok y) h v t = ok_is y v (sym h ∙ read_only strict bytes v t)
+reads_only bytes (Err faults.Memory) h v t = refl
+reads_only bytes (Err (faults.Syntax p)) h v t = absurd (differ (sym (read_only strict bytes v t) ∙ h (λ e. absurd cc)))
+reads_only bytes (Err (faults.Deep p)) h v t = absurd (differ (sym (read_only strict bytes v t) ∙ h (λ e. absurd cc)))
+reads_only bytes (Err (faults.Twice p)) h v t = absurd (differ (sym (read_only strict bytes v t) ∙ h (λ e. absurd cc)))
+reads_only bytes (Err (faults.Surrogate p)) h v t = absurd (differ (sym (read_only strict bytes v t) ∙ h (λ e. absurd cc)))
+reads_only bytes (Err faults.Ended) h v t = absurd (differ (sym (read_only strict bytes v t) ∙ h (λ e. absurd cc)))

@@ -8,13 +8,13 @@ use Rattle.json_value.specs.Strings.{within, is_tail, IsWide, two, three_first, 
 use Rattle.json_read.specs.Scan.{lead}
 use Rattle.json_read.specs.Left.{OneByte, Ends, Tails}
 
-one_tail : (low high b : ℕ) (l : List ℕ) → within low high b ≡ true → Tails (tails.One low high) l (b ∷ []) (b ∷ l)
+pub one_tail : (low high b : ℕ) (l : List ℕ) → within low high b ≡ true → Tails (tails.One low high) l (b ∷ []) (b ∷ l)
 one_tail low high b l hb = record { byte = b; others = []; after = l; made = refl; parts = refl; is = hb; onward = (refl, refl) }
 
-two_tails : (low high b c : ℕ) (l : List ℕ) → within low high b ≡ true → is_tail c ≡ true → Tails (tails.Two low high) l (b ∷ (c ∷ [])) (b ∷ (c ∷ l))
+pub two_tails : (low high b c : ℕ) (l : List ℕ) → within low high b ≡ true → is_tail c ≡ true → Tails (tails.Two low high) l (b ∷ (c ∷ [])) (b ∷ (c ∷ l))
 two_tails low high b c l hb hc = record { byte = b; others = c ∷ []; after = c ∷ l; made = refl; parts = refl; is = hb; onward = one_tail 128 191 c l hc }
 
-three_tails : (low high b c d : ℕ) (l : List ℕ) → within low high b ≡ true → is_tail c ≡ true → is_tail d ≡ true → Tails (tails.Three low high) l (b ∷ (c ∷ (d ∷ []))) (b ∷ (c ∷ (d ∷ l)))
+pub three_tails : (low high b c d : ℕ) (l : List ℕ) → within low high b ≡ true → is_tail c ≡ true → is_tail d ≡ true → Tails (tails.Three low high) l (b ∷ (c ∷ (d ∷ []))) (b ∷ (c ∷ (d ∷ l)))
 three_tails low high b c d l hb hc hd = record { byte = b; others = c ∷ (d ∷ []); after = c ∷ (d ∷ l); made = refl; parts = refl; is = hb; onward = two_tails 128 191 c d l hc hd }
 
 -- ---- the grammar's characters are read

@@ -3,5 +3,4 @@ pub mod Left
 pub mod Machine
 pub mod Numbers
 pub mod Scan
-pub mod Steps
 pub mod View

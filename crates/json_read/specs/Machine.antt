@@ -19,7 +19,7 @@ use Rattle.json_read.specs.declared.string.Progress.TheVariants as s
 use Rattle.json_value.specs.Grammar.{Rules, is_blank, has}
 use Rattle.json_read.specs.Numbers.{number_start, number_next, may_end}
 use Rattle.json_read.specs.Scan.{scan}
-use Rattle.json_read.specs.Steps.{run}
+use Rattle.exact_read.specs.Steps.{run}
 
 abbrev pub Frames : Type 0
 Frames = List Frame

@@ -2,10 +2,14 @@
 #![tactic(auto)]
 
 mod buffer;
+mod laws;
 mod number;
 mod open_members;
 mod reader;
 mod refusal;
 mod string;
+#[cfg(test)]
+mod tests;
 
+pub use laws::fault_is_one;
 pub use reader::read;

@@ -1,13 +1,14 @@
-ghost use Rattle.std.specs.Prelude.{◌≡◌, [], ◌∷◌, ◌++◌, ◌<◌, length, slice_index, IfOk, IfErr, Ok, true, false, ℕ, take, ◌≤◌};
+ghost use Rattle.std.specs.Prelude.{◌≡◌, [], ◌∷◌, ◌++◌, ◌<◌, length, slice_index, IfOk, IfErr, MatchResult, Ok, true, false, ℕ, take, ◌≤◌};
 ghost use Rattle.json_read.specs.Machine as spec;
 ghost use Rattle.json_value.specs.Grammar as grammar;
 ghost use Rattle.json_value.specs.Grammar.{IsText, strict};
+ghost use Rattle.json_read.specs.Faults.{Explains};
 ghost use Rattle.json_read.specs.View.{state_of, frames_of};
 ghost use Rattle.json_read.specs.Left.{HoldsText};
 ghost use Rattle.json_read.specs.declared.reader.Mode.TheVariants as modes;
 ghost use Rattle.json_read.specs.Scan as strings;
 ghost use Rattle.json_read.specs.Numbers as numbers;
-ghost use Rattle.json_read.specs.Steps.{run};
+ghost use Rattle.exact_read.specs.Steps.{run};
 ghost use Rattle.json_value.specs.declared.fault.JsonFault.TheVariants as faults;
 ghost use Rattle.json_read.specs.declared.reader.Frame.TheVariants.{List, Member};
 
@@ -454,12 +455,18 @@ fn all(alloc: Global, bytes: &[u8]) -> Result<Json, JsonFault>
     reader.finish()
 }
 
-/// The value that the bytes spell.
+/// The value that the bytes spell: JSON in UTF-8 (RFC 8259), at most 64 levels deep, with distinct names in each object.
+/// Else the first fault from the left; places count bytes from 0. Uses no stack for the depth of the text, and takes time
+/// in proportion to its length, times the logarithm of the number of names in one object.
 pub fn read(alloc: Global, bytes: &[u8]) -> Result<Json, JsonFault>
     // What is read is the value of the text.
     ensures found { IfOk result (λ v. IsText strict v bytes.now) }
+
     // The value of a text is read, unless memory runs out.
-    ensures only { (v : Json) → IsText strict v bytes.now → spec.Reads (Ok v) result }
+    ensures only { (v : Json) → IsText strict v bytes.now → MatchResult result (λ w. w ≡ v) (λ x. x ≡ faults.Memory) }
+
+    // Any other text has this fault, its first from the left, unless memory runs out.
+    ensures fault { IfErr result (Explains bytes.now) }
 {
     all(alloc, bytes)
 }

@@ -2,3 +2,4 @@ pub mod Grammar
 pub mod Strings
 pub mod Numbers
 pub mod Members
+pub mod Wholes

@@ -8,8 +8,10 @@ mod compare;
 mod fault;
 mod members;
 mod tree;
+mod wholes;
 
 pub use compare::equal;
 pub use fault::JsonFault;
 pub use members::member;
 pub use tree::{Json, copy};
+pub use wholes::whole;

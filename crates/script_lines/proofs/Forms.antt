@@ -8,7 +8,7 @@ use Rattle.cache_terms.specs.declared.keys.Target.TheVariants as target
 use Rattle.cache_terms.specs.declared.tags.Tags.{Tags}
 use Rattle.script_lines.specs.declared.commands.Command.{Command}
 use Rattle.script_lines.specs.declared.commands.Command.TheVariants as command
-use Rattle.script_lines.specs.Commands.{Says, SaysBegin, SaysLook, SaysSettle, SaysReply, SaysFail, SaysTarget, SaysVoid, HasForm, word}
+use Rattle.script_lines.specs.Commands.{Says, SaysBegin, SaysLook, SaysSettle, SaysReply, SaysFail, SaysTarget, SaysVoid, word}
 
 abbrev pub letter : Command → ℕ
 letter (command.Begin who) = 98

@@ -1,5 +1,5 @@
 -- A line has one reading.
-use Rattle.std.proofs.Common.{◌≡◌, ◌≢◌, ◌⊎◌, inl, inr, ℕ, ◌<◌, ◌==◌, List, [], ◌∷◌, ◌++◌, length, get_or, Option, Some, None, arith, sym, ◌∙◌, ap, subst, rules, refl}
+use Rattle.std.proofs.Common.{◌≡◌, inl, inr, ℕ, ◌==◌, List, [], ◌∷◌, get_or, Option, Some, None, arith, sym, ◌∙◌, ap, subst, rules, refl}
 use Rattle.std.specs.Prelude.{codes, Bool, true, false}
 use Rattle.std.specs.List.{slice_split}
 use Rattle.std.proofs.lemmas.List.Splits.{slice_split_none, slice_split_at}
@@ -10,10 +10,10 @@ use Rattle.cache_terms.specs.declared.tags.Tags.{Tags}
 use Rattle.script_lines.specs.declared.commands.Command.{Command}
 use Rattle.script_lines.specs.declared.commands.Command.TheVariants as command
 use Rattle.script_lines.specs.Script.{IsNumber}
-use Rattle.script_lines.specs.Commands.{word, rest_from, IsText, IsOptional, IsTicket, IsStatus, IsScope, IsTagWord, IsKey, SaysTarget, SaysBegin, SaysLook, SaysSettle, SaysReply, SaysFail, SaysVoid, Says}
+use Rattle.script_lines.specs.Commands.{word, rest_from, IsOptional, IsTicket, IsScope, IsTagWord, IsKey, SaysTarget, Says}
 use Rattle.script_lines.proofs.Pieces.{free}
 use Rattle.script_lines.proofs.Numbers.{number_same, number_dotless}
-use Rattle.script_lines.proofs.Forms.{first, letter, first_letter}
+use Rattle.script_lines.proofs.Forms.{letter, first_letter}
 
 ticket_split : (w : List ℕ) (e t : ℕ) → (is : IsTicket w e t) → slice_split (λ b. b == 46) w ≡ is.before ∷ is.after ∷ []
 ticket_split w e t is =

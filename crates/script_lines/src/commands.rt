@@ -50,8 +50,8 @@ pub enum Command {
     Tally,
 }
 
-/// What a line asks for, if it is a command. Linear in the line, and takes memory for the texts of the
-/// command alone.
+/// What a line asks for, if it is a command. Linear in the line. Takes memory for the texts of the command
+/// and for the tags that it lists, doubles too.
 pub fn read_command(alloc: Global, line: &str) -> Result<Option<Command>, Memory>
     ensures { IfOk result (λ c. IsRead (words line.now) c) }
 {

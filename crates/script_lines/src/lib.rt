@@ -12,6 +12,7 @@ mod readers;
 mod replies;
 
 pub use commands::{Command, read_command};
+pub use fields::number;
 pub use laws::one_reading;
 pub use lines::{first_line, is_quiet};
 pub use replies::{

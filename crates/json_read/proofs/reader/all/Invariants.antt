@@ -1,6 +1,6 @@
 use Rattle.std.proofs.Common.{◌≡◌, ◌≤◌, drop, length}
 use Rattle.json_read.specs.Machine.{step, start}
-use Rattle.json_read.specs.Steps.{run}
+use Rattle.exact_read.specs.Steps.{run}
 use Rattle.json_value.specs.Grammar.{strict}
 use Rattle.json_read.specs.View.{state_of}
 use Rattle.json_read.specs.Left.{HoldsText}

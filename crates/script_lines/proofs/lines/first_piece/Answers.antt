@@ -1,4 +1,3 @@
-use Rattle.std.proofs.Common.{arith}
 use Rattle.script_lines.proofs.Pieces.{pieces_at, shorter_at}
 use Rattle.script_lines.proofs.lines.first_piece.Goals as goal
 

@@ -1,4 +1,4 @@
-use Rattle.std.proofs.Common.{List, ℕ, ◌≡◌, Option, sym, subst, refl, rules, arith}
+use Rattle.std.proofs.Common.{List, ℕ, ◌≡◌, sym, subst, refl, rules, arith}
 use Rattle.script_lines.specs.Script.{words}
 use Rattle.script_lines.specs.Commands.{IsTicket, IsTagWord, IsOptional, rest_from}
 use Rattle.script_lines.proofs.Forms.{no_reply}

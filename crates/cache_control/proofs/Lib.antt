@@ -1,0 +1,6 @@
+mod Spans
+mod Complete
+mod Sound
+mod Laws
+mod Steps
+mod Digits

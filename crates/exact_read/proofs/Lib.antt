@@ -1,0 +1,5 @@
+pub mod Exact
+pub mod Relax
+pub mod Decide
+pub mod Machines
+pub mod Digits

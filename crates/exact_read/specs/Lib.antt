@@ -1,0 +1,4 @@
+pub mod Digits
+pub mod Exact
+pub mod Parse
+pub mod Steps

@@ -1,0 +1,89 @@
+ghost use Rattle.std.specs.Prelude.{ℕ, ◌≤◌, ◌↔◌, codes, IsTrue, MatchOption};
+ghost use Rattle.script_lines.specs.Commands.{HasForm};
+ghost use Rattle.fedrouter.specs.Words.{IsAsked, IsWithin};
+
+use cache_terms::Limits;
+use flow_base::{Memory, Text};
+use script_lines::number;
+use std::env;
+use std::env::Env;
+use std::io::ErrorKind;
+
+/// What the words of the command line ask for.
+#[derive(Clone, Copy, Debug, PartialEq, Eq)]
+pub enum Command {
+    Rehearse(Limits),
+    Help,
+    Version,
+}
+
+/// The words of the command line, without the program's name. Words that are not UTF-8 are no words of
+/// any command: none at all stand for them.
+pub fn given_words<R: Env + AllocGlobal>(rt: &R) -> Result<Vec<Text>, Memory> {
+    let mut words = Vec::new(rt.alloc());
+    match env::args(rt) {
+        Ok(args) => {
+            for word in args.skip(1) {
+                words.push(Text::from_string(word))?;
+            }
+            Ok(words)
+        }
+        Err(error) if error.kind() == ErrorKind::OutOfMemory => Err(Memory),
+        Err(_) => Ok(words),
+    }
+}
+
+/// The command that the words ask for, if they ask for one.
+pub fn read_words(words: &[Text]) -> Option<Command>
+    ensures { IsAsked words.now result }
+{
+    if has_form(words, "rehearse", 3) {
+        return read_rehearse(words);
+    }
+    if has_form(words, "--help", 1) {
+        return Some(Command::Help);
+    }
+    if has_form(words, "--version", 1) {
+        return Some(Command::Version);
+    }
+    None
+}
+
+// Whether there are so many words, and the first is the verb.
+fn has_form(words: &[Text], verb: &str, count: usize) -> bool
+    requires { 1 ≤ count }
+    ensures { IsTrue result ↔ HasForm words.now verb.now count }
+{
+    words.len() == count && words[0].as_str() == verb
+}
+
+fn read_rehearse(words: &[Text]) -> Option<Command>
+    requires { HasForm words.now (codes "rehearse") 3 }
+    ensures { IsAsked words.now result }
+{
+    let Some(events) = limit(words[1].as_str(), 8, 65536) else {
+        return None;
+    };
+    let Some(bytes) = limit(words[2].as_str(), 16, 268435456) else {
+        return None;
+    };
+    Some(Command::Rehearse(Limits { events, bytes }))
+}
+
+// The number that the word is, where it lies from `least` to `most`.
+fn limit(word: &str, least: u64, most: u64) -> Option<u64>
+    ensures { MatchOption result ((n : ℕ) → IsWithin word.now least most n → ⊥) (λ n. IsWithin word.now least most n) }
+{
+    match number(word) {
+        None => None,
+        Some(count) => {
+            if count < least {
+                None
+            } else if count > most {
+                None
+            } else {
+                Some(count)
+            }
+        }
+    }
+}
