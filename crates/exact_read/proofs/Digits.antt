@@ -1,5 +1,5 @@
 -- The example is read exactly.
-use Rattle.std.proofs.Common.{◌≡◌, ℕ, Bool, true, false, List, [], ◌∷◌, refl, sym, ap, ◌∙◌}
+use Rattle.std.proofs.Common.{ℕ, Bool, false, refl, ap, ◌∙◌}
 use Rattle.exact_read.specs.Exact.{IsExact, Token}
 use Rattle.exact_read.specs.Parse.{sees, one}
 use Rattle.exact_read.specs.Digits.{is_digit, AreDigits, read_digits}

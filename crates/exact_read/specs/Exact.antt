@@ -1,6 +1,6 @@
 -- When a parser reads exactly a grammar. A grammar is a relation of values and lists of tokens.
-use Rattle.std.specs.Prelude.{◌≡◌, ℕ, Bool, true, false, List, [], ◌∷◌, ◌++◌, Ok, Err, ◌⊎◌}
-use Rattle.exact_read.specs.Parse.{Answer, Parser, sees}
+use Rattle.std.specs.Prelude.{◌≡◌, Bool, true, false, List, [], ◌∷◌, ◌++◌, Ok, Err, ◌⊎◌}
+use Rattle.exact_read.specs.Parse.{Parser, sees}
 
 module _ {T : Type 0} where
   -- no token that would go on follows

@@ -1,5 +1,5 @@
 -- On bytes, an unfinished escape of a low surrogate makes no difference.
-use Rattle.std.proofs.Common.{◌≡◌, ℕ, suc, ◌+◌, ◌<◌, Bool, true, false, List, [], ◌∷◌, get_or, Fits, w8, Result, Ok, Err, refl, sym, ap, ◌∙◌, arith}
+use Rattle.std.proofs.Common.{◌≡◌, ℕ, suc, ◌+◌, ◌<◌, true, false, List, [], ◌∷◌, get_or, Fits, w8, Result, Ok, Err, refl, sym, ap, ◌∙◌, arith}
 use Rattle.std.specs.Prelude.{◌==◌, ◌&&◌}
 use Rattle.std.proofs.lemmas.Bool.{cond-false, ne_eqb, and_left}
 use Rattle.std.proofs.Math.Facts.{Fits-lt-pow}
@@ -9,11 +9,10 @@ use Rattle.json_read.specs.declared.reader.Mode.TheVariants as m
 use Rattle.json_read.specs.declared.string.Part.{Part}
 use Rattle.json_read.specs.declared.string.Part.TheVariants as p
 use Rattle.json_value.specs.Grammar.{strict}
-use Rattle.json_value.specs.Strings.{hex_digit}
 use Rattle.json_read.specs.Faults.{lone}
-use Rattle.json_read.specs.Scan.{is_cut, hex_by, hex_scan, scan}
+use Rattle.json_read.specs.Scan.{is_cut, hex_scan, scan}
 use Rattle.exact_read.specs.Steps.{run, on_step}
-use Rattle.json_read.specs.Machine.{Frames, State, str_by, naming_by, step_by, step}
+use Rattle.json_read.specs.Machine.{State, str_by, naming_by, step_by, step}
 
 abbrev pub AreBytes : List ℕ → Type 0
 AreBytes [] = Unit {0}

@@ -1,5 +1,5 @@
 -- From what stands in a text of an escaped surrogate follows where the reader stands, and that the next byte is refused for it.
-use Rattle.std.proofs.Common.{◌≡◌, ℕ, zero, suc, ◌+◌, ◌<◌, ◌≤◌, Bool, true, false, cond, List, [], ◌∷◌, ◌++◌, length, Option, Some, None, Ok, Err, refl, sym, ap, subst, ◌∙◌, arith, append_assoc, length-append}
+use Rattle.std.proofs.Common.{◌≡◌, ℕ, suc, ◌+◌, ◌<◌, Bool, true, false, cond, List, [], ◌∷◌, ◌++◌, length, Option, Some, None, Ok, Err, refl, sym, ap, subst, ◌∙◌, arith, append_assoc, length-append}
 use Rattle.std.specs.Prelude.{◌==◌, ◌&&◌, encode_utf8}
 use Rattle.std.proofs.lemmas.Bool.{cond-false, cond-true, false_from_ne_true}
 use Rattle.json_read.specs.declared.refusal.Refusal.{Refusal}
@@ -11,14 +11,14 @@ use Rattle.json_read.specs.declared.string.Quad.{Quad}
 use Rattle.json_read.specs.declared.string.Quad.TheVariants as q
 use Rattle.json_value.specs.Strings.{hex_digit, is_high, is_low, four_digits, join, IsUnit, digits}
 use Rattle.json_read.specs.Faults.{lone, InString, HighAt, LowAt}
-use Rattle.json_read.specs.Scan.{Scanned, with, scan, plain_scan, escape_scan, unit_scan, hex_by, hex_scan, slash_scan, letter_scan, may_be_low, pair_scan, low_scan, low_by}
+use Rattle.json_read.specs.Scan.{Scanned, with, scan, plain_scan, escape_scan, unit_scan, hex_by, slash_scan, letter_scan, may_be_low, pair_scan, low_scan, low_by}
 use Rattle.exact_read.specs.Steps.{run}
 use Rattle.json_read.specs.Machine.{Frames, State, step, start}
-use Rattle.exact_read.proofs.Machines.{ok_is, differ}
+use Rattle.exact_read.proofs.Machines.{ok_is}
 use Rattle.exact_read.proofs.Machines.{run_one, run_split}
 use Rattle.json_read.proofs.TextsGo.{heads, digit_steps, high_not_low}
-use Rattle.json_read.proofs.Inside.{Inner, step_inside, refused_inside}
-use Rattle.json_read.proofs.Placed.{Stand, Standing, goes_to, refuses_by, goes_on_not, run_to, stops_at, plain_standing}
+use Rattle.json_read.proofs.Inside.{Inner}
+use Rattle.json_read.proofs.Placed.{Stand, Standing, refuses_by, goes_on_not, run_to, stops_at, plain_standing}
 
 -- the scans of an escape
 slash_scans : (at : ℕ) (text : List ℕ) → scan true at p.Plain text 92 ≡ Ok (s.More (p.Escape at) text)

@@ -1,7 +1,6 @@
 -- Each fault is the first one, at its place, and there is no other.
-use Rattle.std.proofs.Common.{◌≡◌, ℕ, suc, ◌+◌, ◌<◌, ◌≤◌, Bool, true, false, List, [], ◌∷◌, ◌++◌, length, take, drop, get_or, Result, Ok, Err, refl, sym, ap, subst, ◌∙◌, arith, append_assoc, add-one, ◌⊎◌, inl, inr, length-append}
+use Rattle.std.proofs.Common.{◌≡◌, ℕ, suc, ◌+◌, ◌<◌, Bool, true, false, List, [], ◌∷◌, ◌++◌, length, take, drop, get_or, Result, Ok, Err, refl, sym, ap, subst, ◌∙◌, arith, append_assoc, ◌⊎◌, inl, inr, length-append}
 use Rattle.std.specs.Prelude.{IfErr}
-use Rattle.std.proofs.lemmas.Bool.{cases_lt}
 use Rattle.std.proofs.lemmas.List.{take_at, take-append-drop, length-take-le}
 use Rattle.std.proofs.Math.Seq.{take-suc, drop-cons}
 use Rattle.json_value.specs.declared.tree.Json.{Json}
@@ -11,9 +10,9 @@ use Rattle.json_value.specs.declared.fault.JsonFault.{JsonFault}
 use Rattle.json_value.specs.declared.fault.JsonFault.TheVariants as faults
 use Rattle.json_read.specs.declared.reader.Mode.{Mode}
 use Rattle.json_read.specs.declared.reader.Mode.TheVariants as m
-use Rattle.json_value.specs.Grammar.{Rules, strict, IsText, IsViable}
+use Rattle.json_value.specs.Grammar.{Rules, strict, IsViable}
 use Rattle.json_read.specs.Faults.{lone, deeper, any_names, StopsAt, SequenceAt, HighAt, LowAt, NameAt, SurrogateAt, NoRule, MalformedAt, Explains}
-use Rattle.exact_read.specs.Steps.{run, on_step}
+use Rattle.exact_read.specs.Steps.{run}
 use Rattle.json_read.specs.Numbers.{may_end}
 use Rattle.json_read.specs.Machine.{Frames, State, Outcome, step_by, step, start, finish, finish_by, number_end, placed, whole, read_of, Reads}
 use Rattle.json_read.proofs.Frames.{Left}
@@ -21,9 +20,9 @@ use Rattle.json_read.proofs.Laxer.{Laxer, lone_deeper, lone_any_names, run_agree
 use Rattle.json_read.proofs.Judged.{Fits, StillFits, Judged, GoesOn, step_by_judged, step_by_fits}
 use Rattle.json_read.proofs.Places.{OutcomeAt, refused_at}
 use Rattle.json_read.proofs.Whole.{Valid, sound, goes, keeps, ends, start_text, text_start, read_only}
-use Rattle.exact_read.proofs.Machines.{ok_is, err_is, differ, Refused, refused, run_sound, run_keeps, reached_is_viable, refused_is_not_viable}
+use Rattle.exact_read.proofs.Machines.{err_is, differ, Refused, refused, run_sound, run_keeps, refused_is_not_viable}
 use Rattle.exact_read.proofs.Machines.{run_both}
-use Rattle.json_read.proofs.Viable.{viable_runs, runs_viable, after_viable, fewer_viable}
+use Rattle.json_read.proofs.Viable.{viable_runs, runs_viable, after_viable}
 use Rattle.json_read.proofs.Placed.{sequence_standing, wide_refusal}
 use Rattle.json_read.proofs.Escapes.{high_standing, waiting_refusal, low_refusal}
 use Rattle.json_read.proofs.NamesAt.{name_standing, twice_refusal}

@@ -1,12 +1,10 @@
 -- What is held of a number or a string stays UTF-8.
-use Rattle.std.proofs.Common.{◌≡◌, ℕ, suc, ◌+◌, Bool, true, false, cond, List, [], ◌∷◌, ◌++◌, length, Option, Some, None, Result, Ok, Err, refl, sym, subst, append_assoc}
+use Rattle.std.proofs.Common.{◌≡◌, ℕ, ◌+◌, Bool, true, false, cond, List, [], ◌∷◌, ◌++◌, length, Option, Some, None, Ok, Err, refl, sym, subst, append_assoc}
 use Rattle.std.specs.Prelude.{nat_lt, ◌==◌, ◌&&◌, slice_index, IsUtf8}
 use Rattle.std.proofs.lemmas.Bool.{cond_both}
 use Rattle.json_value.specs.declared.tree.Json.{Json}
 use Rattle.json_value.specs.declared.tree.Json.TheVariants as j
-use Rattle.json_read.specs.declared.refusal.Refusal.{Refusal}
 use Rattle.json_read.specs.declared.refusal.Refusal.TheVariants as e
-use Rattle.json_read.specs.declared.reader.Word.TheVariants as w
 use Rattle.json_read.specs.declared.reader.Mode.{Mode}
 use Rattle.json_read.specs.declared.reader.Mode.TheVariants as m
 use Rattle.json_read.specs.declared.reader.Frame.TheVariants as f
@@ -19,7 +17,7 @@ use Rattle.json_read.specs.Numbers.{number_start, number_next, may_end}
 use Rattle.json_read.specs.Left.{Completes, TextLeft, HoldsText}
 use Rattle.json_read.specs.Scan.{Scanned, scan}
 use Rattle.exact_read.specs.Steps.{run, on_step}
-use Rattle.json_read.specs.Machine.{Frames, Pairs, State, Outcome, to, letters, meant, pick, unless_blank, beginnings, number_by, open_by, begin, value_step, first_step, after_by, after_step, word_step, number_go, number_step, str_by, first_name_step, next_name_step, named, naming_by, colon_step, step_by, step}
+use Rattle.json_read.specs.Machine.{Frames, Pairs, State, Outcome, to, letters, meant, pick, beginnings, number_by, open_by, begin, value_step, first_step, after_by, after_step, word_step, number_go, number_step, str_by, first_name_step, next_name_step, named, naming_by, colon_step, step_by, step}
 use Rattle.exact_read.proofs.Machines.{ok_is}
 use Rattle.json_read.proofs.Utf8.{plain_holds, more_holds, number_holds}
 

@@ -1,7 +1,7 @@
 -- What stands in a text says how the reader stands: where a string is read, and in which part of it.
-use Rattle.std.proofs.Common.{◌≡◌, ℕ, zero, suc, ◌+◌, ◌<◌, ◌≤◌, Bool, true, false, cond, List, [], ◌∷◌, ◌++◌, length, Option, Some, None, Result, Ok, Err, refl, sym, ap, subst, ◌∙◌, arith, ◌⊎◌, inl, inr}
-use Rattle.std.specs.Prelude.{nat_lt, nat_le, ◌==◌, ◌&&◌, slice_index, codes, encode_utf8}
-use Rattle.std.proofs.lemmas.Bool.{cond_both, cond-false, cond-true, ne_eqb, lt-leb, and_left, and_right, and_parts}
+use Rattle.std.proofs.Common.{◌≡◌, ℕ, zero, suc, ◌<◌, ◌≤◌, true, false, List, [], ◌∷◌, length, None, Ok, Err, refl, sym, ap, ◌∙◌, arith}
+use Rattle.std.specs.Prelude.{nat_lt, nat_le, ◌==◌, ◌&&◌, slice_index}
+use Rattle.std.proofs.lemmas.Bool.{cond_both, ne_eqb, lt-leb, and_right}
 use Rattle.json_value.specs.declared.tree.Json.{Json}
 use Rattle.json_value.specs.declared.tree.Json.TheVariants as j
 use Rattle.json_read.specs.declared.refusal.Refusal.{Refusal}
@@ -14,20 +14,13 @@ use Rattle.json_read.specs.declared.reader.Frame.TheVariants as f
 use Rattle.json_read.specs.declared.number.Digit.{Digit}
 use Rattle.json_read.specs.declared.number.Digit.TheVariants as d
 use Rattle.json_read.specs.declared.string.Part.{Part}
-use Rattle.json_read.specs.declared.string.Part.TheVariants as p
 use Rattle.json_read.specs.declared.string.Progress.TheVariants as s
-use Rattle.json_read.specs.declared.string.Tail.{Tail}
-use Rattle.json_read.specs.declared.string.Tail.TheVariants as tails
-use Rattle.json_read.specs.declared.string.Quad.{Quad}
-use Rattle.json_read.specs.declared.string.Quad.TheVariants as q
-use Rattle.json_value.specs.Strings.{within, short, hex_digit}
 use Rattle.json_value.specs.Grammar.{is_blank}
-use Rattle.json_read.specs.Faults.{lone, any_names}
+use Rattle.json_read.specs.Faults.{lone}
 use Rattle.json_read.specs.Numbers.{number_start, number_next, may_end}
-use Rattle.json_read.specs.Scan.{Scanned, lead, scan, plain_scan, escape_scan, hex_scan, hex_by, is_cut, slash_scan, letter_scan, low_scan, low_by, wide_scan, tail_low, tail_high}
-use Rattle.json_read.specs.Machine.{Frames, Pairs, State, Outcome, to, letters, meant, pick, number_by, open_by, begin, value_step, first_step, after_by, after_step, word_step, number_go, number_step, str_by, first_name_step, next_name_step, naming_by, colon_step, step_by, step}
+use Rattle.json_read.specs.Scan.{Scanned, scan}
+use Rattle.json_read.specs.Machine.{Frames, Pairs, State, Outcome, letters, begin, value_step, first_step, after_by, after_step, word_step, number_go, number_step, str_by, first_name_step, next_name_step, naming_by, colon_step, step_by, step}
 use Rattle.exact_read.proofs.Machines.{err}
-use Rattle.json_read.proofs.TextsGo.{IsPart, tail_holds}
 
 -- whose string is read
 pub data Inner : Type 0 where

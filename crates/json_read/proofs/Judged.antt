@@ -1,5 +1,5 @@
 -- Which rule refuses a byte.
-use Rattle.std.proofs.Common.{◌≡◌, ℕ, suc, ◌+◌, ◌<◌, ◌≤◌, Bool, true, false, cond, List, [], ◌∷◌, ◌++◌, length, Option, Some, None, Ok, Err, refl, ap, ◌∙◌, arith}
+use Rattle.std.proofs.Common.{◌≡◌, ℕ, suc, ◌+◌, ◌<◌, ◌≤◌, Bool, true, false, cond, List, [], ◌∷◌, ◌++◌, length, Option, Some, None, Ok, Err, refl, arith}
 use Rattle.std.specs.Prelude.{nat_lt, ◌==◌, ◌&&◌, slice_index, encode_utf8}
 use Rattle.std.proofs.lemmas.Bool.{cond_both, ltb-true, lt-ltb}
 use Rattle.json_value.specs.declared.tree.Json.{Json}

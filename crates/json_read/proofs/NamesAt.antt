@@ -1,7 +1,7 @@
 -- From what stands in a text before a name follows that the reader reads that name.
-use Rattle.std.proofs.Common.{◌≡◌, ℕ, zero, suc, ◌+◌, ◌<◌, ◌≤◌, Bool, true, false, cond, List, [], ◌∷◌, ◌++◌, length, Some, None, Ok, Err, refl, sym, ap, subst, ◌∙◌, arith, append_assoc, ◌⊎◌, inl, inr}
-use Rattle.std.specs.Prelude.{nat_lt, nat_le, ◌==◌, ◌&&◌, codes, slice_index}
-use Rattle.std.proofs.lemmas.Bool.{cond_both, and_left, and_right, lt-leb}
+use Rattle.std.proofs.Common.{◌≡◌, ℕ, zero, suc, ◌+◌, Bool, true, false, List, [], ◌∷◌, ◌++◌, length, None, Ok, Err, refl, sym, ap, subst, ◌∙◌, arith, append_assoc, ◌⊎◌, inl, inr}
+use Rattle.std.specs.Prelude.{nat_lt, ◌==◌, codes, slice_index}
+use Rattle.std.proofs.lemmas.Bool.{and_right}
 use Rattle.json_value.specs.declared.tree.Json.{Json}
 use Rattle.json_value.specs.declared.tree.Json.TheVariants as j
 use Rattle.json_read.specs.declared.refusal.Refusal.{Refusal}
@@ -16,20 +16,19 @@ use Rattle.json_read.specs.declared.number.Digit.TheVariants as d
 use Rattle.json_read.specs.declared.string.Part.{Part}
 use Rattle.json_read.specs.declared.string.Part.TheVariants as p
 use Rattle.json_read.specs.declared.string.Progress.TheVariants as s
-use Rattle.json_value.specs.Strings.{within, Chars}
+use Rattle.json_value.specs.Strings.{Chars}
 use Rattle.json_value.specs.Grammar.{Rules, has}
-use Rattle.json_read.specs.Faults.{lone, any_names, AtName, NameAt}
+use Rattle.json_read.specs.Faults.{lone, any_names, NameAt}
 use Rattle.json_read.specs.Left.{TextLeft}
 use Rattle.json_read.specs.Numbers.{number_next, may_end}
-use Rattle.json_read.specs.Scan.{Scanned, scan, plain_scan, escape_scan, hex_scan, slash_scan, letter_scan, low_scan, wide_scan, tail_low, tail_high}
-use Rattle.exact_read.specs.Steps.{run, on_step}
-use Rattle.json_read.specs.Machine.{Frames, Pairs, State, Outcome, to, letters, begin, value_step, first_step, after_by, after_step, word_step, number_go, number_step, str_by, first_name_step, next_name_step, named, naming_by, colon_step, step_by, step, start}
+use Rattle.json_read.specs.Scan.{Scanned, scan, plain_scan, escape_scan, hex_scan, slash_scan, letter_scan, low_scan, wide_scan}
+use Rattle.exact_read.specs.Steps.{run}
+use Rattle.json_read.specs.Machine.{Frames, Pairs, State, Outcome, to, letters, begin, value_step, first_step, after_step, word_step, number_go, number_step, str_by, first_name_step, next_name_step, named, naming_by, colon_step, step_by, step, start}
 use Rattle.exact_read.proofs.Machines.{err, ok_is, err_is, differ}
 use Rattle.exact_read.proofs.Machines.{run_one, run_split}
 use Rattle.json_read.proofs.Viable.{runs_valid, viable_after}
-use Rattle.json_read.proofs.TextsGo.{IsPart, ScanGoes, GoesOn, IsDone, scan_goes, heads}
+use Rattle.json_read.proofs.TextsGo.{IsPart, ScanGoes, scan_goes}
 use Rattle.json_read.proofs.Complete.{IsValid}
-use Rattle.json_read.proofs.Whole.{Valid}
 use Rattle.json_read.proofs.TextsEnd.{text_not_empty}
 use Rattle.json_read.proofs.Laxer.{lone_any_names, run_agrees}
 use Rattle.json_read.proofs.Judged.{ScanOnly, scan_only}

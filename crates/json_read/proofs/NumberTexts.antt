@@ -1,5 +1,5 @@
 -- The texts of numbers byte by byte are those of the grammar.
-use Rattle.std.proofs.Common.{◌≡◌, ℕ, Bool, true, false, cond, List, [], ◌∷◌, ◌++◌, Option, Some, None, refl, sym, ap, ◌∙◌, subst, arith, append_assoc, ◌⊎◌, inl, inr}
+use Rattle.std.proofs.Common.{◌≡◌, ℕ, Bool, true, false, cond, List, [], ◌∷◌, ◌++◌, Option, Some, None, refl, sym, ap, ◌∙◌, subst, arith, ◌⊎◌, inl, inr}
 use Rattle.std.specs.Prelude.{◌==◌, ◌||◌, nat_le}
 use Rattle.std.proofs.lemmas.Bool.{eqb-true, or_cases, and_parts, and_from, leb-true, le-leb, ne_eqb}
 use Rattle.std.proofs.lemmas.List.{append-nil}
@@ -7,7 +7,7 @@ use Rattle.json_read.specs.declared.number.Digit.{Digit}
 use Rattle.json_read.specs.declared.number.Digit.TheVariants as d
 use Rattle.json_read.specs.Numbers.{number_start, number_next, may_end}
 use Rattle.json_read.specs.Left.{Completes}
-use Rattle.json_value.specs.Numbers.{is_digit, is_digit_1_9, is_e, AreDigits, IsMinus, positive, minus, IsInt, zero, digits, IsFrac, no_frac, frac, IsExp, no_exp, exp, signed_exp, IsNumber, number}
+use Rattle.json_value.specs.Numbers.{is_digit, is_digit_1_9, is_e, AreDigits, positive, minus, IsInt, zero, digits, IsFrac, no_frac, frac, IsExp, no_exp, exp, signed_exp, IsNumber, number}
 
 pub record ReadsNumber (a : List ℕ) : Type 0 where
   pub first : ℕ

@@ -1,7 +1,7 @@
 -- From what stands in a text follows the part of a string in which the reader stands, and why it refuses a byte.
-use Rattle.std.proofs.Common.{◌≡◌, ℕ, zero, suc, ◌+◌, ◌<◌, ◌≤◌, Bool, true, false, cond, List, [], ◌∷◌, ◌++◌, length, Option, Some, None, Result, Ok, Err, refl, sym, ap, subst, ◌∙◌, arith, append_assoc, length-append, ◌⊎◌, inl, inr}
-use Rattle.std.specs.Prelude.{nat_lt, nat_le, ◌==◌, ◌&&◌, codes, encode_utf8}
-use Rattle.std.proofs.lemmas.Bool.{cond-false, cond-true, ne_eqb, lt-leb, and_left, and_right, and_parts}
+use Rattle.std.proofs.Common.{◌≡◌, ℕ, suc, ◌+◌, ◌<◌, ◌≤◌, Bool, true, false, List, [], ◌∷◌, ◌++◌, length, Some, None, Ok, Err, refl, sym, ap, subst, ◌∙◌, arith, length-append}
+use Rattle.std.specs.Prelude.{nat_le, ◌==◌, ◌&&◌, codes}
+use Rattle.std.proofs.lemmas.Bool.{cond-false, cond-true, ne_eqb, lt-leb, and_left, and_right}
 use Rattle.json_read.specs.declared.refusal.Refusal.{Refusal}
 use Rattle.json_read.specs.declared.refusal.Refusal.TheVariants as e
 use Rattle.json_read.specs.declared.reader.Mode.{Mode}
@@ -10,23 +10,20 @@ use Rattle.json_read.specs.declared.string.Part.TheVariants as p
 use Rattle.json_read.specs.declared.string.Progress.TheVariants as s
 use Rattle.json_read.specs.declared.string.Tail.{Tail}
 use Rattle.json_read.specs.declared.string.Tail.TheVariants as tails
-use Rattle.json_read.specs.declared.string.Quad.{Quad}
-use Rattle.json_read.specs.declared.string.Quad.TheVariants as q
-use Rattle.json_value.specs.Strings.{within, is_plain, short, hex_digit, is_high, is_low, four_digits, join, IsWide, IsUnit, digits}
-use Rattle.json_value.specs.Grammar.{IsViable}
-use Rattle.json_read.specs.Faults.{lone, InString, SequenceAt, HighAt, LowAt}
+use Rattle.json_value.specs.Strings.{within, is_plain, short, hex_digit}
+use Rattle.json_read.specs.Faults.{lone, InString, SequenceAt}
 use Rattle.json_read.specs.Left.{Tails}
-use Rattle.json_read.specs.Scan.{Scanned, lead, with, wide_by, scan, plain_scan, escape_scan, unit_scan, hex_scan, hex_by, is_cut, slash_scan, letter_scan, may_be_low, pair_scan, low_scan, low_by, wide_scan, wide_next, tail_low, tail_high}
+use Rattle.json_read.specs.Scan.{Scanned, lead, scan, escape_scan, hex_scan, hex_by, is_cut, slash_scan, letter_scan, low_scan, low_by, wide_scan, wide_next, tail_low, tail_high}
 use Rattle.exact_read.specs.Steps.{run}
-use Rattle.json_read.specs.Machine.{Frames, State, Outcome, step_by, step, start}
+use Rattle.json_read.specs.Machine.{Frames, State, step, start}
 use Rattle.exact_read.proofs.Machines.{ok_is, err_is, differ}
 use Rattle.exact_read.proofs.Machines.{run_one, run_split}
 use Rattle.json_read.proofs.Viable.{runs_valid, viable_after}
-use Rattle.json_read.proofs.Wides.{WideTails, wide_tails}
-use Rattle.json_read.proofs.TextsGo.{IsPart, tail_holds, heads, lead_big, plain_steps, wide_steps, digit_steps, high_not_low}
+use Rattle.json_read.proofs.Wides.{wide_tails}
+use Rattle.json_read.proofs.TextsGo.{IsPart, tail_holds, heads, lead_big, wide_steps}
 use Rattle.json_read.proofs.Whole.{Valid}
 use Rattle.json_read.proofs.Complete.{IsValid}
-use Rattle.json_read.proofs.Inside.{Inner, value, name, inside, InPart, Alien, alien_high, alien_slash, in_string, in_by, goes_inside, refused_inside, never, step_inside}
+use Rattle.json_read.proofs.Inside.{Inner, value, name, inside, alien_high, alien_slash, in_string, in_by, goes_inside, refused_inside, never, step_inside}
 
 -- the state in a string
 abbrev pub Stand : Inner → Part → List ℕ → Frames → State

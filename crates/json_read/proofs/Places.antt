@@ -1,7 +1,7 @@
 -- What stands before a byte that is refused, where the refusal names a place.
-use Rattle.std.proofs.Common.{◌≡◌, ℕ, suc, ◌+◌, Bool, true, false, cond, List, [], ◌∷◌, ◌++◌, length, Option, Some, None, Ok, Err, refl, sym, ap, subst, ◌∙◌, arith, append_assoc, length-append, ◌⊎◌, inl, inr}
+use Rattle.std.proofs.Common.{◌≡◌, ℕ, ◌+◌, Bool, true, false, cond, List, [], ◌∷◌, ◌++◌, length, Option, Some, None, Ok, Err, refl, sym, ap, subst, ◌∙◌, arith, append_assoc, length-append, ◌⊎◌, inl, inr}
 use Rattle.std.specs.Prelude.{nat_lt, ◌==◌, ◌&&◌, slice_index, encode_utf8, codes}
-use Rattle.std.proofs.lemmas.Bool.{cond_both, eqb-true, and_parts}
+use Rattle.std.proofs.lemmas.Bool.{cond_both, eqb-true}
 use Rattle.std.proofs.lemmas.List.{append-nil}
 use Rattle.json_value.specs.declared.tree.Json.{Json}
 use Rattle.json_value.specs.declared.tree.Json.TheVariants as j
@@ -21,14 +21,14 @@ use Rattle.json_read.specs.declared.string.Quad.TheVariants as q
 use Rattle.json_value.specs.Strings.{within, is_plain, short, hex_digit, is_high, is_low, four_digits, join, IsWide, IsUnit, digits, Chars}
 use Rattle.json_value.specs.Grammar.{Rules, is_blank, has}
 use Rattle.json_read.specs.Faults.{lone, any_names, InString, AtName, SequenceAt, HighAt, LowAt, NameAt}
-use Rattle.json_read.specs.Left.{OneByte, Tails, Digits, TextLeft}
+use Rattle.json_read.specs.Left.{Tails, Digits, TextLeft}
 use Rattle.json_read.specs.Numbers.{number_start, number_next, may_end}
 use Rattle.json_read.specs.Scan.{Scanned, lead, with, wide_by, plain_scan, short_by, escape_scan, unit_scan, hex_by, is_cut, hex_scan, slash_scan, letter_scan, may_be_low, pair_scan, low_by, low_scan, wide_next, wide_scan, tail_low, tail_high, scan}
 use Rattle.exact_read.specs.Steps.{run, on_step}
 use Rattle.json_read.specs.Machine.{Frames, Pairs, State, Outcome, to, letters, meant, pick, beginnings, number_by, open_by, begin, value_step, first_step, after_by, after_step, word_step, number_go, number_step, str_by, first_name_step, next_name_step, named, naming_by, colon_step, step_by, step, start}
 use Rattle.json_read.proofs.Texts.{IsScanSound, scan_sound}
 use Rattle.json_read.proofs.Wides.{one_tail, two_tails, three_tails, tails_wide}
-use Rattle.json_read.proofs.TextsEnd.{LowDigited, lowest}
+use Rattle.json_read.proofs.TextsEnd.{lowest}
 use Rattle.json_read.proofs.TextsGo.{IsPart, tail_holds}
 use Rattle.exact_read.proofs.Machines.{ok_is}
 use Rattle.json_read.proofs.Laxer.{lone_any_names, run_agrees}

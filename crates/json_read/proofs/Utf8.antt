@@ -10,7 +10,7 @@ use Rattle.json_read.specs.declared.number.Digit.{Digit}
 use Rattle.json_read.specs.declared.string.Part.{Part}
 use Rattle.json_read.specs.declared.string.Part.TheVariants as p
 use Rattle.json_read.specs.declared.string.Progress.TheVariants as s
-use Rattle.json_value.specs.Strings.{within, is_plain, is_tail, short, hex_digit, is_high, is_low, join, IsWide, two, three_first, three, three_below, three_above, four_first, four, four_last, IsUnit, digits as unit_digits, Chars, end, plain, wide, short_escape, escape, pair_escape, cut_escape}
+use Rattle.json_value.specs.Strings.{within, is_plain, short, hex_digit, is_high, is_low, join, IsWide, two, three_first, three, three_below, three_above, four_first, four, four_last, IsUnit, digits as unit_digits, Chars, end, plain, wide, short_escape, escape, pair_escape, cut_escape}
 use Rattle.json_value.specs.Numbers.{is_digit, is_e, AreDigits, IsMinus, positive, minus, IsInt, zero, digits, IsFrac, no_frac, frac, IsExp, no_exp, exp, signed_exp, IsNumber, number}
 use Rattle.json_read.specs.Numbers.{number_start, may_end}
 use Rattle.json_read.specs.Left.{Completes, TextLeft}

@@ -1,12 +1,11 @@
 -- Bytes that some text continues are those that the reader reads.
-use Rattle.std.proofs.Common.{◌≡◌, ℕ, ◌+◌, true, List, ◌++◌, length, Ok, sym, ap, subst, ◌∙◌, arith, append_assoc}
-use Rattle.json_value.specs.declared.tree.Json.{Json}
+use Rattle.std.proofs.Common.{◌≡◌, ℕ, true, List, ◌++◌, length, Ok, sym, ap, subst, ◌∙◌, arith, append_assoc}
 use Rattle.json_value.specs.Grammar.{Rules, IsText, IsViable}
 use Rattle.exact_read.specs.Steps.{run}
 use Rattle.json_read.specs.Machine.{State, step, start}
 use Rattle.json_read.proofs.Frames.{Left}
 use Rattle.json_read.proofs.Whole.{Valid, sound, goes, keeps, ends, start_text, text_start}
-use Rattle.exact_read.proofs.Machines.{ok_is, run_goes, run_keeps, run_sound, reached_is_viable}
+use Rattle.exact_read.proofs.Machines.{ok_is, run_goes, run_keeps, reached_is_viable}
 use Rattle.exact_read.proofs.Machines.{run_split, run_both}
 
 pub viable_runs : (r : Rules) (front : List ℕ) → IsViable r front → (s : State) × (run (step r) front 0 start ≡ Ok s)

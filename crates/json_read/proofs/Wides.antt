@@ -1,12 +1,12 @@
 -- The characters of several bytes, byte by byte, are those of the grammar.
-use Rattle.std.proofs.Common.{◌≡◌, ℕ, ◌<◌, ◌≤◌, Bool, true, false, List, [], ◌∷◌, ◌++◌, Option, Some, None, refl, sym, ap, subst, ◌∙◌, arith, ◌⊎◌, inl, inr}
+use Rattle.std.proofs.Common.{◌≡◌, ℕ, ◌<◌, ◌≤◌, true, false, List, [], ◌∷◌, ◌++◌, Option, Some, None, refl, sym, ap, subst, ◌∙◌, arith, ◌⊎◌, inl, inr}
 use Rattle.std.specs.Prelude.{◌==◌, nat_le}
 use Rattle.std.proofs.lemmas.Bool.{cond_both, eqb-true, ne_eqb, leb-true, le-leb, lt-leb, and_parts, and_left, and_right, and_from, cases_lt}
 use Rattle.json_read.specs.declared.string.Tail.{Tail}
 use Rattle.json_read.specs.declared.string.Tail.TheVariants as tails
 use Rattle.json_value.specs.Strings.{within, is_tail, IsWide, two, three_first, three, three_below, three_above, four_first, four, four_last}
 use Rattle.json_read.specs.Scan.{lead}
-use Rattle.json_read.specs.Left.{OneByte, Ends, Tails}
+use Rattle.json_read.specs.Left.{Tails}
 
 pub one_tail : (low high b : ℕ) (l : List ℕ) → within low high b ≡ true → Tails (tails.One low high) l (b ∷ []) (b ∷ l)
 one_tail low high b l hb = record { byte = b; others = []; after = l; made = refl; parts = refl; is = hb; onward = (refl, refl) }
