@@ -1,5 +1,5 @@
 -- The places that the definition lists are those to which the path leads.
-use Rattle.std.proofs.Common.{◌≡◌, ℕ, suc, zero, ◌+◌, List, [], ◌∷◌, ◌++◌, ◌⊎◌, inl, inr, Option, None, Some, refl, sym, ◌∙◌, ap, subst, arith, true, is_some}
+use Rattle.std.proofs.Common.{◌≡◌, ℕ, suc, zero, ◌+◌, List, [], ◌∷◌, inl, inr, Option, None, Some, refl, sym, ◌∙◌, ap, subst, arith}
 use Rattle.std.specs.Prelude.{IsSome, slice_get, option_and_then, Contains, ◌↔◌}
 use Rattle.json_value.specs.declared.tree.Json.{Json}
 use Rattle.json_value.specs.Members.{member}
@@ -9,7 +9,7 @@ use Rattle.json_paths.specs.declared.path.Spot.{Spot}
 use Rattle.json_paths.specs.declared.path.Spot.TheVariants as spot
 use Rattle.json_paths.specs.declared.path.Path.{Path}
 use Rattle.json_paths.specs.declared.path.Place.{Place}
-use Rattle.json_paths.specs.Parts.{at, part, elements}
+use Rattle.json_paths.specs.Parts.{at, elements}
 use Rattle.json_paths.specs.Places.{below, under, in_part, in_each, spots_in, places_of, Follows, IsPlaceOf}
 use Rattle.json_paths.proofs.Among.{Among, Among-append_cases, Among-append_left, Among-append_right, Among-from_contains, Contains-from_among}
 

@@ -1,8 +1,7 @@
 -- How the places that the walk appends add up.
-use Rattle.std.proofs.Common.{◌≡◌, ℕ, suc, ◌+◌, ◌<◌, ◌≤◌, List, [], ◌∷◌, ◌++◌, Option, Some, refl, ap, ◌∙◌, sym, append_assoc, length, drop, get_or, arith, add-one, drop-cons}
+use Rattle.std.proofs.Common.{◌≡◌, ℕ, suc, ◌+◌, ◌<◌, ◌≤◌, List, [], ◌∷◌, ◌++◌, Option, Some, refl, ap, ◌∙◌, sym, append_assoc, length, drop, get_or, add-one, drop-cons}
 use Rattle.std.proofs.lemmas.List.{append-nil, drop_all}
 use Rattle.json_value.specs.declared.tree.Json.{Json}
-use Rattle.json_value.specs.declared.tree.Json.TheVariants as json
 use Rattle.json_paths.specs.declared.path.Spot.{Spot}
 use Rattle.json_paths.specs.declared.path.Spot.TheVariants as spot
 use Rattle.json_paths.specs.declared.path.Place.{Place}

@@ -1,5 +1,5 @@
 -- The part of a value at a place.
-use Rattle.std.specs.Prelude.{ℕ, List, [], ◌∷◌, Option, Some, None, slice_get, option_and_then}
+use Rattle.std.specs.Prelude.{ℕ, List, [], ◌∷◌, Option, Some, slice_get, option_and_then}
 use Rattle.json_value.specs.declared.tree.Json.{Json, out-Json}
 use Rattle.json_value.specs.declared.tree.Json.TheOpen.{Json-F}
 use Rattle.json_value.specs.Members.{member}

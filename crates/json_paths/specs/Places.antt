@@ -1,5 +1,5 @@
 -- The places that a path leads to.
-use Rattle.std.specs.Prelude.{◌≡◌, IsSome, ℕ, suc, List, [], ◌∷◌, ◌++◌, Option, Some, None, map}
+use Rattle.std.specs.Prelude.{◌≡◌, IsSome, ℕ, suc, List, [], ◌∷◌, ◌++◌, Option, Some, None}
 use Rattle.json_value.specs.declared.tree.Json.{Json}
 use Rattle.json_value.specs.Members.{member}
 use Rattle.json_paths.specs.declared.path.Step.{Step}
