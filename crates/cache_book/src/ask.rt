@@ -207,7 +207,7 @@ pub fn ask_all(
 }
 
 /// Lets go of answers that nobody was given.
-fn discard(answers: Vec<Found>) {
+pub fn discard(answers: Vec<Found>) {
     let mut answers = answers;
     while let Some(answer) = answers.pop() {
         match answer {

@@ -10,7 +10,8 @@ use flow_base::{Memory, Text};
 use std::alloc::Global;
 use std::marker::Model;
 
-/// A cache for one epoch at a time, by the list of its events.
+/// A cache for one epoch at a time, by the list of its events. Contracts see it as a legal `State`, whose limits
+/// are in their ranges.
 #[derive(Drop)]
 pub struct Book {
     limits: Limits,
@@ -180,10 +181,11 @@ impl Book {
         }
     }
 
-    /// The events of the epoch.
+    /// The events of the epoch. Takes no memory.
     pub fn journal(&self) -> &Vec<Event>
         ensures same { result.now.items ≡ self.now.journal }
         ensures legal { IsLegal self.now.limits self.now.journal }
+        ensures ranges { IsWithinRanges self.now.limits }
     {
         &self.events
     }

@@ -1,8 +1,8 @@
 //! The cache: a journal of events, and the calls that append to it.
 //!
 //! It is the plainest representation, a list of events: what is held, chosen or due is found by going over the
-//! list. A call takes time in the square of the number of events at most, but for `invalidate`, whose count
-//! takes the cube.
+//! list. Each ask of a look, and each other call, takes time in the square of the number of events at most, but
+//! for `invalidate`, whose count takes the cube.
 #![tactic(auto)]
 
 mod answers;
@@ -27,3 +27,6 @@ pub use laws::{
 pub use notice::Notice;
 pub use pass::Pass;
 pub use permit::{Fill, Permit, Report};
+
+#[cfg(test)]
+mod tests;
