@@ -2,3 +2,4 @@ pub mod Maps
 pub mod Holding
 pub mod Playing
 pub mod Telling
+pub mod Determined

@@ -16,6 +16,7 @@ use Rattle.cache_book.specs.declared.answers.Voided.{Voided}
 use Rattle.cache_book.specs.declared.permit.Report.{Report}
 use Rattle.cache_book.specs.declared.permit.Report.TheVariants as report
 use Rattle.cache_book.specs.declared.found.Found.{Found}
+use Rattle.cache_control.specs.Rules.{verdict_of}
 use Rattle.script_lines.specs.Script.{words, IsQuiet}
 use Rattle.script_lines.specs.Commands.{Says}
 use Rattle.script_lines.specs.Replies.{line_of, settled_text}
@@ -88,17 +89,17 @@ abbrev pub Does : Scene → Command → List ℕ → Scene → Type 0
 Does old (command.Begin who) reply new = DoesBegin old who reply new
 Does old (command.Look who id now key) reply new = DoesLook old who id now key reply new
 Does old (command.Settle epoch ticket lifetime age private tags value) reply new = DoesSettle old epoch ticket (report.Got (offered 200 (told lifetime age private) tags value)) reply new
+Does old (command.Reply epoch ticket status age tags value cache_control) reply new = DoesSettle old epoch ticket (report.Got (offered status (verdict_of cache_control age) tags value)) reply new
 Does old (command.Fail epoch ticket) reply new = DoesSettle old epoch ticket report.Failed reply new
 Does old (command.Void who target) reply new = DoesVoid old who target reply new
 Does old command.Tally reply new = DoesTally old reply new
-Does old other reply new = ⊥
 
 -- what a command needs is not there: a pass of its caller, or the permit that it names
 abbrev pub Lacks : Scene → Command → Cause → Type 0
 Lacks old (command.Look who id now key) cause.Who = map.get old.passes who ≡ None
 Lacks old (command.Settle epoch ticket lifetime age private tags value) cause.Ticket = map.get old.hand (epoch, ticket) ≡ None
+Lacks old (command.Reply epoch ticket status age tags value cache_control) cause.Ticket = map.get old.hand (epoch, ticket) ≡ None
 Lacks old (command.Fail epoch ticket) cause.Ticket = map.get old.hand (epoch, ticket) ≡ None
-Lacks old (command.Reply epoch ticket status age tags value cache_control) cause.Word = Unit {0}
 Lacks old other c = ⊥
 
 -- the line is quiet, or a command that is carried out
@@ -107,5 +108,5 @@ Plays old line reply new = (IsQuiet line × (reply ≡ []) × (new ≡ old)) ⊎
 
 -- the line is refused: it is neither quiet nor a command, or what its command needs is not there
 abbrev pub Refuses : Scene → List ℕ → Cause → Type 0
-Refuses old line cause.Word = ((IsQuiet line → ⊥) × ((c : Command) → Says (words line) c → ⊥)) ⊎ ((c : Command) × Says (words line) c × Lacks old c cause.Word)
+Refuses old line cause.Word = (IsQuiet line → ⊥) × ((c : Command) → Says (words line) c → ⊥)
 Refuses old line other = (c : Command) × Says (words line) c × Lacks old c other

@@ -25,3 +25,9 @@ Runs number s [] out extent = Ends number s [] out extent
 Runs number s (line ∷ lines) out extent =
     Ends number s (line ∷ lines) out extent
     ⊎ ((reply rest : List ℕ) × (next : Scene) × Plays s line reply next × Runs (number + 1) next lines rest extent × (out ≡ reply ++ rest))
+
+-- the text goes to the end of the script, or to a line that is refused
+abbrev pub IsComplete : Extent → Type 0
+IsComplete Whole = Unit {0}
+IsComplete Refused = Unit {0}
+IsComplete Front = ⊥

@@ -1,6 +1,9 @@
-ghost use Rattle.std.specs.Prelude.{◌≡◌};
+ghost use Rattle.std.specs.Prelude.{◌≡◌, ◌≤◌};
+ghost use Rattle.std.specs.Option.{option_copied};
+ghost use Rattle.cache_control.specs.Rules.{verdict_of};
 ghost use Rattle.rehearsal.specs.Acts.{offered, told};
 
+use cache_control::verdict;
 use cache_terms::{Marks, Offer, Tags, Verdict};
 use flow_base::Text;
 
@@ -32,4 +35,19 @@ pub fn told(lifetime: u64, age: u64, private: bool) -> Verdict
         private,
         no_store: false,
     }
+}
+
+/// A reply with these header texts.
+pub fn replied(
+    status: u16,
+    cache_control: Option<&Text>,
+    age: Option<&Text>,
+    tags: Tags,
+    value: Text,
+) -> Offer
+    ensures offer { result ≡ offered status (verdict_of (option_copied cache_control.entry) (option_copied age.entry)) tags value }
+    ensures lifetime { result.verdict.lifetime ≤ 2147483648 }
+    ensures age { result.verdict.age ≤ 2147483648 }
+{
+    offered(status, verdict(cache_control, age), tags, value)
 }

@@ -3,7 +3,7 @@ ghost use Rattle.rehearsal.specs.Texts.{begun_by};
 
 use crate::acts::ask;
 use crate::hand::Hand;
-use crate::offers::{offered, told};
+use crate::offers::{offered, replied, told};
 use crate::passes::Passes;
 use cache_book::{Book, Fill, Notice, Report, Turned};
 use cache_terms::{Key, Target};
@@ -111,7 +111,18 @@ impl Stage {
                 self.settle(epoch, ticket, Report::Got(offer))
             }
             Command::Fail { epoch, ticket } => self.settle(epoch, ticket, Report::Failed),
-            Command::Reply { .. } => Ok(Answer::Refused(Cause::Word)),
+            Command::Reply {
+                epoch,
+                ticket,
+                status,
+                age,
+                tags,
+                value,
+                cache_control,
+            } => {
+                let offer = replied(status, cache_control.as_ref(), age.as_ref(), tags, value);
+                self.settle(epoch, ticket, Report::Got(offer))
+            }
             Command::Void { who, target } => Ok(Answer::Says(self.void(who, &target)?)),
             Command::Tally => Ok(Answer::Says(self.tally()?)),
         }

@@ -1,0 +1,20 @@
+use Rattle.std.proofs.Common.{◌≡◌, ◌≤◌, ◌∙◌, ap, arith}
+use Rattle.cache_terms.specs.declared.offers.Offer.{Offer}
+use Rattle.cache_terms.specs.declared.offers.Verdict.{Verdict}
+use Rattle.rehearsal.specs.Acts.{offered}
+use Rattle.rehearsal.proofs.offers.replied.Goals as goal
+
+pub returns-clause-offer : goal.returns-clause-offer
+returns-clause-offer c = c.offered.ensures ∙ ap (λ (v : Verdict). offered c.args.status v c.args.tags c.args.value) c.verdict.ensures.value
+
+pub returns-clause-lifetime : goal.returns-clause-lifetime
+returns-clause-lifetime c =
+    let same : c.offered.result.verdict.lifetime ≡ c.verdict.result.lifetime = ap (λ (o : Offer). o.verdict.lifetime) c.offered.ensures in
+    let within : c.verdict.result.lifetime ≤ 2147483648 = c.verdict.ensures.lifetime in
+    omega (arith, same, within)
+
+pub returns-clause-age : goal.returns-clause-age
+returns-clause-age c =
+    let same : c.offered.result.verdict.age ≡ c.verdict.result.age = ap (λ (o : Offer). o.verdict.age) c.offered.ensures in
+    let within : c.verdict.result.age ≤ 2147483648 = c.verdict.ensures.age in
+    omega (arith, same, within)
