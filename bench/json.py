@@ -2,9 +2,9 @@
 """Compares `bench json` with CPython's json module, on the same bytes in the same run.
 
 Makes a reply of about 4 MB (entities with texts, numbers, nested lists, escapes and characters past ASCII) and one
-object of 100,000 distinct names. For each it times reading and printing five times, by the program and by CPython's
+object of 100,000 distinct names. For each it times reading and printing in five runs, by the program and by CPython's
 `json.loads` and `json.dumps` with compact separators, and prints the best of the five, their ratio, and how the time
-for each byte of the object stands to that of the reply. The best of all turns counts, each timed by itself.
+for each byte of the object stands to that of the reply. A run of the program is the mean of three turns.
 
 Usage: bench/json.py PROGRAM, the path of the built `bench`.
 """
@@ -21,7 +21,8 @@ import random
 import subprocess
 import time
 
-TURNS = 5
+RUNS = 5
+TURNS = 3
 WORDS = ("router entity subgraph cache journal epoch fragment selection catalogue review délai café naïve "
          "größe straße 価格 名前 товар 😀 🚲").split()
 
@@ -74,19 +75,19 @@ def names(count):
 def program(path, body):
     """The bytes and the best nanoseconds of reading and of printing, by the program."""
     best = {}
-    for _ in range(TURNS):
-        told = subprocess.run([path, "json", "1"], input=body, stdout=subprocess.PIPE, check=True).stdout.decode()
+    for _ in range(RUNS):
+        told = subprocess.run([path, "json", str(TURNS)], input=body, stdout=subprocess.PIPE, check=True).stdout.decode()
         for line in told.splitlines():
             what, size, _, _, _, spent, _ = line.split(" ")
-            before = best.get(what)
-            best[what] = (int(size), min(int(spent), before[1] if before else int(spent)))
+            turn = int(spent) / TURNS
+            best[what] = (int(size), min(turn, best[what][1]) if what in best else turn)
     return best
 
 
 def cpython(body):
     """The best nanoseconds of `loads` and of `dumps`. The collector of cycles is off while the clock runs."""
     reading = printing = None
-    for _ in range(TURNS):
+    for _ in range(RUNS):
         gc.collect()
         gc.disable()
         start = time.perf_counter_ns()
