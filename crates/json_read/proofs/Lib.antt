@@ -14,6 +14,7 @@ pub mod Judged
 pub mod Names
 pub mod PlainRuns
 pub mod Held
+pub mod Taken
 pub mod Bytes
 pub mod Splits
 pub mod Viable

@@ -4,4 +4,5 @@ pub mod Machine
 pub mod Numbers
 pub mod Scan
 pub mod Steps
+pub mod Tokens
 pub mod View
