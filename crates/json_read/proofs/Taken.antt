@@ -20,14 +20,15 @@ use Rattle.json_read.specs.Scan.{AllPlain}
 use Rattle.json_value.specs.Grammar.{strict, has, is_blank, IsSpace}
 use Rattle.json_read.specs.Numbers.{number_start, number_next, may_end}
 use Rattle.json_read.specs.Scan.{scan, plain_scan}
-use Rattle.json_read.specs.Steps.{run, on_step}
+use Rattle.exact_read.specs.Steps.{run, on_step}
 use Rattle.json_read.specs.Machine.{State, Frames, Pairs, Outcome, to, step, placed, whole, begin, value_step, first_step, after_by, after_step, unless_blank, number_go, number_step, first_name_step, next_name_step, named, colon_step}
 use Rattle.json_read.specs.Tokens.{Takes, Follows, Stops}
 use Rattle.json_read.specs.Left.{HoldsText, TextLeft}
 use Rattle.json_value.specs.Strings.{Chars, end}
 use Rattle.json_read.proofs.Held.{run_holds}
 use Rattle.json_read.proofs.Utf8.{plain_holds, number_ends}
-use Rattle.json_read.proofs.PlainRuns.{plain_runs, naming_runs, run_on}
+use Rattle.json_read.proofs.PlainRuns.{plain_runs, naming_runs}
+use Rattle.exact_read.proofs.Machines.{run_both}
 use Rattle.json_read.proofs.Complete.{number_begins, number_not_blank}
 
 pub one_taken : (b : ℕ) (bs : List ℕ) (at : ℕ) (x y : State) → step strict at x b ≡ Ok y → Takes (b ∷ bs) at x (Ok 1) y
@@ -76,7 +77,7 @@ split_run bytes more n k at x y z is le first second =
     let cut : take (n + k) bytes ≡ take n bytes ++ take k more = take-add n k bytes ∙ ap (λ (w : List ℕ). take n bytes ++ take k w) is in
     let long : length (take n bytes) ≡ n = length-take-le n bytes le in
     ap (λ (w : List ℕ). run (step strict) w at x) cut
-    ∙ (run_on (take n bytes) (take k more) at x y first ∙ (ap (λ (q : ℕ). run (step strict) (take k more) (at + q) y) long ∙ second))
+    ∙ (run_both (step strict) (take n bytes) (take k more) at x y first ∙ (ap (λ (q : ℕ). run (step strict) (take k more) (at + q) y) long ∙ second))
 
 pub then_ok : (bytes more : List ℕ) (n k at : ℕ) (x y z : State) → drop n bytes ≡ more → n ≤ length bytes → 0 < n → run (step strict) (take n bytes) at x ≡ Ok y
     → Takes more (at + n) y (Ok k) z → Takes bytes at x (Ok (n + k)) z
@@ -89,14 +90,14 @@ then_err bytes more n at x y z z' fault is le first second = λ not.
     let long : length (take n bytes) ≡ n = length-take-le n bytes le in
     let all : run (step strict) bytes at x ≡ run (step strict) more (at + n) y =
     ap (λ (w : List ℕ). run (step strict) w at x) (sym (take-append-drop n bytes) ∙ ap (λ (w : List ℕ). take n bytes ++ w) is)
-    ∙ (run_on (take n bytes) more at x y first ∙ ap (λ (q : ℕ). run (step strict) more (at + q) y) long) in
+    ∙ (run_both (step strict) (take n bytes) more at x y first ∙ ap (λ (q : ℕ). run (step strict) more (at + q) y) long) in
     ap whole all ∙ second not
 
 -- names
 into_name : (fs : Frames) (ms : Pairs) (place at : ℕ) (name w : List ℕ) → AllPlain name
     → run (step strict) (name ++ (34 ∷ w)) at (record { mode = m.Naming ms place p.Plain []; frames = fs }) ≡ on_step (step strict) (at + length name) (named true fs ms place name) (run (step strict) w (at + length name + 1))
 unfolding run step scan plain_scan
-into_name fs ms place at name w all = run_on name (34 ∷ w) at _ _ (naming_runs name at ms place [] fs all)
+into_name fs ms place at name w all = run_both (step strict) name (34 ∷ w) at _ _ (naming_runs name at ms place [] fs all)
 
 named_new : (fs : Frames) (ms : Pairs) (place : ℕ) (name : List ℕ) → has ms name ≡ false → named true fs ms place name ≡ to (m.Colon ms name) fs
 unfolding named
@@ -160,7 +161,7 @@ string_taken fs at n bytes after all is =
     let le : n ≤ length bytes = omega (arith, length-drop n bytes, ap length is) in
     let front : take (n + 1) bytes ≡ take n bytes ++ (34 ∷ []) = take-add n 1 bytes ∙ ap (λ (w : List ℕ). take n bytes ++ take 1 w) is in
     ap (λ (w : List ℕ). run (step strict) w at (record { mode = m.Value; frames = fs })) (take_more (n + 2) (n + 1) 34 bytes (omega arith) ∙ ap (λ (w : List ℕ). 34 ∷ w) front)
-    ∙ run_on (take n bytes) (34 ∷ []) (at + 1) _ _ (plain_runs (take n bytes) (at + 1) [] fs all)
+    ∙ run_both (step strict) (take n bytes) (34 ∷ []) (at + 1) _ _ (plain_runs (take n bytes) (at + 1) [] fs all)
 
 pub string_begun : (fs : Frames) (at n : ℕ) (bytes : List ℕ) → n ≤ length bytes → AllPlain (take n bytes)
     → Takes (34 ∷ bytes) at (record { mode = m.Value; frames = fs }) (Ok (n + 1)) (record { mode = m.Str p.Plain (take n bytes); frames = fs })
@@ -396,7 +397,7 @@ takes_on bytes at n x y total lt taken so_far =
     let long : length (take n (drop at bytes)) ≡ n = length-take-le n (drop at bytes) now.0 in
     let all : run (step strict) (drop at bytes) at x ≡ run (step strict) (drop (at + n) bytes) (at + n) y =
     ap (λ (w : List ℕ). run (step strict) w at x) (sym (take-append-drop n (drop at bytes)) ∙ ap (λ (w : List ℕ). take n (drop at bytes) ++ w) (drop-drop n at bytes))
-    ∙ (run_on (take n (drop at bytes)) (drop (at + n) bytes) at x y now.2 ∙ ap (λ (q : ℕ). run (step strict) (drop (at + n) bytes) (at + q) y) long) in
+    ∙ (run_both (step strict) (take n (drop at bytes)) (drop (at + n) bytes) at x y now.2 ∙ ap (λ (q : ℕ). run (step strict) (drop (at + n) bytes) (at + q) y) long) in
     (now.1 (omega (arith, length-drop at bytes)), far, sym all ∙ so_far)
 
 pub takes_fault : (bytes : List ℕ) (at : ℕ) (x y : State) (total : Result State (Refusal × ℕ)) (fault : JsonFault) → at < length bytes → Takes (take (length bytes - at) (drop at bytes)) at x (Err fault) y

@@ -9,7 +9,7 @@ use Rattle.json_read.specs.declared.string.Progress.TheVariants as s
 use Rattle.json_value.specs.Grammar.{strict, is_blank, IsSpace}
 use Rattle.json_read.specs.Numbers.{number_next}
 use Rattle.json_read.specs.Scan.{scan}
-use Rattle.json_read.specs.Steps.{run}
+use Rattle.exact_read.specs.Steps.{run}
 use Rattle.json_read.specs.Machine.{State, step, whole}
 
 -- from the old state, at this place, so many of the bytes lead to the new one; or reading ends with this fault

@@ -1,5 +1,5 @@
 use Rattle.std.proofs.Common.{arith, refl}
-use Rattle.json_read.specs.Steps.{run}
+use Rattle.exact_read.specs.Steps.{run}
 use Rattle.json_read.proofs.reader.Reader.take.Goals as goal
 
 pub returns-in-empty : goal.returns-in-empty
