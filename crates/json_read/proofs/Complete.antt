@@ -52,11 +52,11 @@ none_some x o a b = cc
 number_not : (t c : ℕ) (part : Digit) → number_start c ≡ None → number_start t ≡ Some part → (t == c) ≡ false
 number_not t c part at is = ne_eqb t c (λ same. none_some part (number_start c) at (subst (λ (n : ℕ). number_start n ≡ Some part) same is))
 
-number_begins : (depth : ℕ) (fs : Frames) (t : ℕ) (part : Digit) → number_start t ≡ Some part → begin depth fs t ≡ to (m.Number part (t ∷ [])) fs
+pub number_begins : (depth : ℕ) (fs : Frames) (t : ℕ) (part : Digit) → number_start t ≡ Some part → begin depth fs t ≡ to (m.Number part (t ∷ [])) fs
 unfolding begin
 number_begins depth fs t part is = rw (number_not t 91 part refl is, number_not t 123 part refl is, number_not t 34 part refl is, number_not t 110 part refl is, number_not t 116 part refl is, number_not t 102 part refl is) (ap (number_by fs t) is)
 
-number_not_blank : (t : ℕ) (part : Digit) → number_start t ≡ Some part → is_blank t ≡ false
+pub number_not_blank : (t : ℕ) (part : Digit) → number_start t ≡ Some part → is_blank t ≡ false
 number_not_blank t part is = rw (number_not t 32 part refl is, number_not t 9 part refl is, number_not t 10 part refl is, number_not t 13 part refl is) refl
 
 -- the naming that a pair of the grammar leaves

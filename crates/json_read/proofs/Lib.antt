@@ -13,6 +13,7 @@ pub mod Judged
 pub mod Names
 pub mod PlainRuns
 pub mod Held
+pub mod Taken
 pub mod Bytes
 pub mod Viable
 pub mod Inside

@@ -3,4 +3,5 @@ pub mod Left
 pub mod Machine
 pub mod Numbers
 pub mod Scan
+pub mod Tokens
 pub mod View

@@ -1,6 +1,6 @@
 //! The bytes of a number or a string that is being read.
 
-ghost use Rattle.std.specs.Prelude.{◌≡◌, [], ◌∷◌, ◌++◌, OnOk, encode_utf8, IsUtf8};
+ghost use Rattle.std.specs.Prelude.{◌≡◌, [], ◌∷◌, ◌++◌, IfOk, OnOk, encode_utf8, IsUtf8};
 
 use flow_base::Text;
 use std::alloc::{AllocError, Global};
@@ -27,6 +27,15 @@ impl Buffer {
         Buffer {
             inner: Vec::new(alloc),
         }
+    }
+
+    /// A copy of the bytes.
+    pub fn of(alloc: Global, bytes: &[u8]) -> Result<Buffer, AllocError>
+        ensures { IfOk result (λ b. b ≡ bytes.now) }
+    {
+        Ok(Buffer {
+            inner: Vec::from_slice(alloc, bytes)?,
+        })
     }
 
     pub fn push(&mut self, byte: u8) -> Result<(), AllocError>

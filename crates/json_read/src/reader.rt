@@ -12,6 +12,8 @@ ghost use Rattle.exact_read.specs.Steps.{run};
 ghost use Rattle.json_value.specs.declared.fault.JsonFault.TheVariants as faults;
 ghost use Rattle.json_read.specs.declared.reader.Frame.TheVariants.{List, Member};
 
+mod tokens;
+
 use crate::buffer::Buffer;
 use crate::number::{Digit, may_end, number_next, number_start};
 use crate::open_members::Members;
@@ -441,16 +443,12 @@ fn all(alloc: Global, bytes: &[u8]) -> Result<Json, JsonFault>
         mode: Mode::Value,
         frames: Items::new(alloc),
     };
-    let mut next = 0;
-    for i in 0..bytes.len() {
-        if i < next {
-            continue;
+    let mut at = 0;
+    while at < bytes.len() {
+        match reader.take(at, &bytes[at..]) {
+            Ok(n) => at += n,
+            Err(fault) => return Err(fault),
         }
-        if let Err(refusal) = reader.step(i as u64, bytes[i]) {
-            return Err(placed(refusal, i as u64));
-        }
-        let n = reader.take_plain(&bytes[i + 1..])?;
-        next = i + 1 + n;
     }
     reader.finish()
 }

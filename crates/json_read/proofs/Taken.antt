@@ -1,0 +1,407 @@
+-- What is taken at once is what the machine takes byte by byte.
+use Rattle.std.proofs.Common.{◌≡◌, ◌≢◌, ℕ, zero, suc, ◌+◌, ◌-◌, ◌<◌, ◌≤◌, Bool, true, false, cond, List, [], ◌∷◌, ◌++◌, length, take, drop, get_or, add-one, Option, Some, None, Result, Ok, Err, refl, sym, ap, subst, ◌∙◌, arith, append_assoc}
+use Rattle.std.specs.Prelude.{◌==◌, ◌||◌, reverse, IsUtf8}
+use Rattle.std.proofs.lemmas.List.{append-nil, take-append-drop, length-take-le, length-drop, drop_all, drop-drop, reverse-append}
+use Rattle.std.proofs.lemmas.Bool.{ne_eqb}
+use Rattle.std.proofs.Math.Seq.{take-add, take-suc, drop-cons, take-length}
+use Rattle.json_value.specs.declared.tree.Json.{Json}
+use Rattle.json_value.specs.declared.tree.Json.TheVariants as j
+use Rattle.json_read.specs.declared.refusal.Refusal.{Refusal}
+use Rattle.json_read.specs.declared.refusal.Refusal.TheVariants as e
+use Rattle.json_value.specs.declared.fault.JsonFault.{JsonFault}
+use Rattle.json_value.specs.declared.fault.JsonFault.TheVariants as faults
+use Rattle.json_read.specs.declared.reader.Mode.{Mode}
+use Rattle.json_read.specs.declared.reader.Mode.TheVariants as m
+use Rattle.json_read.specs.declared.reader.Frame.{Frame}
+use Rattle.json_read.specs.declared.reader.Frame.TheVariants as f
+use Rattle.json_read.specs.declared.number.Digit.{Digit}
+use Rattle.json_read.specs.declared.string.Part.TheVariants as p
+use Rattle.json_read.specs.Scan.{AllPlain}
+use Rattle.json_value.specs.Grammar.{strict, has, is_blank, IsSpace}
+use Rattle.json_read.specs.Numbers.{number_start, number_next, may_end}
+use Rattle.json_read.specs.Scan.{scan, plain_scan}
+use Rattle.exact_read.specs.Steps.{run, on_step}
+use Rattle.json_read.specs.Machine.{State, Frames, Pairs, Outcome, to, step, placed, whole, begin, value_step, first_step, after_by, after_step, unless_blank, number_go, number_step, first_name_step, next_name_step, named, colon_step}
+use Rattle.json_read.specs.Tokens.{Takes, Follows, Stops}
+use Rattle.json_read.specs.Left.{HoldsText, TextLeft}
+use Rattle.json_value.specs.Strings.{Chars, end}
+use Rattle.json_read.proofs.Held.{run_holds}
+use Rattle.json_read.proofs.Utf8.{plain_holds, number_ends}
+use Rattle.json_read.proofs.PlainRuns.{plain_runs, naming_runs}
+use Rattle.exact_read.proofs.Machines.{run_both}
+use Rattle.json_read.proofs.Complete.{number_begins, number_not_blank}
+
+pub one_taken : (b : ℕ) (bs : List ℕ) (at : ℕ) (x y : State) → step strict at x b ≡ Ok y → Takes (b ∷ bs) at x (Ok 1) y
+unfolding run
+one_taken b bs at x y is = (omega arith, (λ _. omega arith), rw is refl)
+
+pub one_refused : (b : ℕ) (bs : List ℕ) (at : ℕ) (x y : State) (why : Refusal) (fault : JsonFault) → fault ≡ placed why at → (why ≢ e.Memory → step strict at x b ≡ Err why) → Takes (b ∷ bs) at x (Err fault) y
+unfolding run
+one_refused b bs at x y why fault is fails = λ not.
+    let failed = fails (λ same. not (is ∙ ap (λ q. placed q at) same)) in
+    rw failed (ap (λ q. Err q) (sym is))
+
+pub one_then : (b n : ℕ) (bs : List ℕ) (at : ℕ) (x y z : State) → step strict at x b ≡ Ok y → n ≤ length bs → ((q : ℕ) → run (step strict) (take n bs) q y ≡ Ok z) → Takes (b ∷ bs) at x (Ok (1 + n)) z
+unfolding run
+one_then b n bs at x y z is le more = (
+  omega arith,
+  (λ _. omega arith),
+  ap (λ (q : ℕ). run (step strict) (take q (b ∷ bs)) at x) (let one : 1 + n ≡ suc n = omega arith in one)
+      ∙ (ap (λ (o : Outcome). on_step (step strict) at o (run (step strict) (take n bs) (at + 1))) is ∙ more (at + 1)),
+)
+
+-- what is held is UTF-8
+pub plain_utf8 : (t : List ℕ) → AllPlain t → IsUtf8 t
+plain_utf8 t all = run_holds t 0 (record { mode = m.Str p.Plain []; frames = [] }) (record { mode = m.Str p.Plain t; frames = [] }) plain_holds (plain_runs t 0 [] [] all) (34 ∷ []) t ([], end, sym (append-nil t))
+
+pub plain_text_utf8 : (text s : List ℕ) → AllPlain s → text ≡ s → IsUtf8 text
+plain_text_utf8 text s all same = subst (λ (t : List ℕ). IsUtf8 t) (sym same) (plain_utf8 s all)
+
+pub after_taken : (b : ℕ) (bs : List ℕ) (at : ℕ) (v : Json) (fs : Frames) (y : State) → after_step fs v b ≡ Ok y → Takes (b ∷ bs) at (record { mode = m.After v; frames = fs }) (Ok 1) y
+unfolding step
+after_taken b bs at v fs y is = one_taken b bs at (record { mode = m.After v; frames = fs }) y is
+
+pub after_refused : (b : ℕ) (bs : List ℕ) (at : ℕ) (v : Json) (fs : Frames) (y : State) (why : Refusal) (fault : JsonFault) → fault ≡ placed why at → (why ≢ e.Memory → after_step fs v b ≡ Err why)
+    → Takes (b ∷ bs) at (record { mode = m.After v; frames = fs }) (Err fault) y
+unfolding step
+after_refused b bs at v fs y why fault is fails = one_refused b bs at (record { mode = m.After v; frames = fs }) y why fault is fails
+
+pub comma_by : (fs : Frames) (v : Json) → after_step fs v 44 ≡ after_by fs v 44
+unfolding after_step
+comma_by fs v = refl
+
+-- after another piece
+split_run : (bytes more : List ℕ) (n k at : ℕ) (x y z : State) → drop n bytes ≡ more → n ≤ length bytes → run (step strict) (take n bytes) at x ≡ Ok y
+    → run (step strict) (take k more) (at + n) y ≡ Ok z → run (step strict) (take (n + k) bytes) at x ≡ Ok z
+split_run bytes more n k at x y z is le first second =
+    let cut : take (n + k) bytes ≡ take n bytes ++ take k more = take-add n k bytes ∙ ap (λ (w : List ℕ). take n bytes ++ take k w) is in
+    let long : length (take n bytes) ≡ n = length-take-le n bytes le in
+    ap (λ (w : List ℕ). run (step strict) w at x) cut
+    ∙ (run_both (step strict) (take n bytes) (take k more) at x y first ∙ (ap (λ (q : ℕ). run (step strict) (take k more) (at + q) y) long ∙ second))
+
+pub then_ok : (bytes more : List ℕ) (n k at : ℕ) (x y z : State) → drop n bytes ≡ more → n ≤ length bytes → 0 < n → run (step strict) (take n bytes) at x ≡ Ok y
+    → Takes more (at + n) y (Ok k) z → Takes bytes at x (Ok (n + k)) z
+then_ok bytes more n k at x y z is le some first second =
+    (omega (arith, length-drop n bytes, ap length is, second.0), (λ _. omega arith), split_run bytes more n k at x y z is le first second.2)
+
+pub then_err : (bytes more : List ℕ) (n at : ℕ) (x y z z' : State) (fault : JsonFault) → drop n bytes ≡ more → n ≤ length bytes → run (step strict) (take n bytes) at x ≡ Ok y
+    → Takes more (at + n) y (Err fault) z' → Takes bytes at x (Err fault) z
+then_err bytes more n at x y z z' fault is le first second = λ not.
+    let long : length (take n bytes) ≡ n = length-take-le n bytes le in
+    let all : run (step strict) bytes at x ≡ run (step strict) more (at + n) y =
+    ap (λ (w : List ℕ). run (step strict) w at x) (sym (take-append-drop n bytes) ∙ ap (λ (w : List ℕ). take n bytes ++ w) is)
+    ∙ (run_both (step strict) (take n bytes) more at x y first ∙ ap (λ (q : ℕ). run (step strict) more (at + q) y) long) in
+    ap whole all ∙ second not
+
+-- names
+into_name : (fs : Frames) (ms : Pairs) (place at : ℕ) (name w : List ℕ) → AllPlain name
+    → run (step strict) (name ++ (34 ∷ w)) at (record { mode = m.Naming ms place p.Plain []; frames = fs }) ≡ on_step (step strict) (at + length name) (named true fs ms place name) (run (step strict) w (at + length name + 1))
+unfolding run step scan plain_scan
+into_name fs ms place at name w all = run_both (step strict) name (34 ∷ w) at _ _ (naming_runs name at ms place [] fs all)
+
+named_new : (fs : Frames) (ms : Pairs) (place : ℕ) (name : List ℕ) → has ms name ≡ false → named true fs ms place name ≡ to (m.Colon ms name) fs
+unfolding named
+named_new fs ms place name is = rw is refl
+
+named_twice : (fs : Frames) (ms : Pairs) (place : ℕ) (name : List ℕ) → has ms name ≡ true → named true fs ms place name ≡ Err (e.Twice place)
+unfolding named
+named_twice fs ms place name is = rw is refl
+
+whole_name : (fs : Frames) (ms : Pairs) (place at : ℕ) (name : List ℕ) → AllPlain name → has ms name ≡ false
+    → run (step strict) (name ++ (34 ∷ (58 ∷ []))) at (record { mode = m.Naming ms place p.Plain []; frames = fs }) ≡ Ok (record { mode = m.Value; frames = f.Member ms name ∷ fs })
+unfolding run step colon_step
+whole_name fs ms place at name all is =
+    into_name fs ms place at name (58 ∷ []) all
+    ∙ ap (λ (o : Outcome). on_step (step strict) (at + length name) o (run (step strict) (58 ∷ []) (at + length name + 1))) (named_new fs ms place name is)
+
+take_more : (n k : ℕ) (b : ℕ) (bs : List ℕ) → n ≡ suc k → take n (b ∷ bs) ≡ b ∷ take k bs
+take_more n k b bs is = ap (λ (q : ℕ). take q (b ∷ bs)) is
+
+pub first_name_taken : (fs : Frames) (mode : Mode) (at n : ℕ) (bytes : List ℕ) → mode ≡ m.FirstName → n + 2 ≤ length bytes → AllPlain (take n bytes) → take (n + 2) bytes ≡ take n bytes ++ (34 ∷ (58 ∷ []))
+    → Takes (34 ∷ bytes) at (record { mode = mode; frames = fs }) (Ok (n + 3)) (record { mode = m.Value; frames = f.Member [] (take n bytes) ∷ fs })
+unfolding run step first_name_step
+first_name_taken fs mode at n bytes is_first le all ends = (
+  omega arith,
+  (λ _. omega arith),
+  ap (λ (w : List ℕ). run (step strict) w at (record { mode = mode; frames = fs })) (take_more (n + 3) (n + 2) 34 bytes (omega arith) ∙ ap (λ (w : List ℕ). 34 ∷ w) ends)
+      ∙ (ap (λ (q : Mode). run (step strict) (34 ∷ (take n bytes ++ (34 ∷ (58 ∷ [])))) at (record { mode = q; frames = fs })) is_first ∙ whole_name fs [] at (at + 1) (take n bytes) all refl),
+)
+
+pub next_name_taken : (fs : Frames) (ms : Pairs) (name : List ℕ) (v : Json) (at n : ℕ) (bytes : List ℕ) → n + 2 ≤ length bytes → AllPlain (take n bytes) → take (n + 2) bytes ≡ take n bytes ++ (34 ∷ (58 ∷ []))
+    → has (ms ++ ((name, v) ∷ [])) (take n bytes) ≡ false
+    → Takes (44 ∷ (34 ∷ bytes)) at (record { mode = m.After v; frames = f.Member ms name ∷ fs }) (Ok (n + 4)) (record { mode = m.Value; frames = f.Member (ms ++ ((name, v) ∷ [])) (take n bytes) ∷ fs })
+unfolding run step after_step next_name_step
+next_name_taken fs ms name v at n bytes le all ends is_new = (
+  omega arith,
+  (λ _. omega arith),
+  ap (λ (w : List ℕ). run (step strict) w at (record { mode = m.After v; frames = f.Member ms name ∷ fs }))
+      (take_more (n + 4) (n + 3) 44 (34 ∷ bytes) (omega arith) ∙ ap (λ (w : List ℕ). 44 ∷ w) (take_more (n + 3) (n + 2) 34 bytes (omega arith) ∙ ap (λ (w : List ℕ). 34 ∷ w) ends))
+      ∙ whole_name fs (ms ++ ((name, v) ∷ [])) (at + 1) (at + 1 + 1) (take n bytes) all is_new,
+)
+
+pub next_name_twice : (fs : Frames) (ms : Pairs) (name : List ℕ) (v : Json) (at n : ℕ) (bytes : List ℕ) (y : State) → AllPlain (take n bytes) → take (n + 2) bytes ≡ take n bytes ++ (34 ∷ (58 ∷ []))
+    → has (ms ++ ((name, v) ∷ [])) (take n bytes) ≡ true
+    → Takes (44 ∷ (34 ∷ bytes)) at (record { mode = m.After v; frames = f.Member ms name ∷ fs }) (Err (faults.Twice (at + 1))) y
+unfolding run step after_step next_name_step
+next_name_twice fs ms name v at n bytes y all ends is_old = λ _.
+    let cut : bytes ≡ take n bytes ++ (34 ∷ (58 ∷ drop (n + 2) bytes)) =
+    sym (take-append-drop (n + 2) bytes) ∙ (ap (λ (w : List ℕ). w ++ drop (n + 2) bytes) ends ∙ append_assoc (take n bytes) (34 ∷ (58 ∷ [])) (drop (n + 2) bytes)) in
+    let ms' : Pairs = ms ++ ((name, v) ∷ []) in
+    let reached : run (step strict) bytes (at + 1 + 1) (record { mode = m.Naming (ms ++ ((name, v) ∷ [])) (at + 1) p.Plain []; frames = fs }) ≡ Err (e.Twice (at + 1), at + 1 + 1 + length (take n bytes)) =
+    ap (λ (w : List ℕ). run (step strict) w (at + 1 + 1) (record { mode = m.Naming (ms ++ ((name, v) ∷ [])) (at + 1) p.Plain []; frames = fs })) cut
+    ∙ (into_name fs (ms ++ ((name, v) ∷ [])) (at + 1) (at + 1 + 1) (take n bytes) (58 ∷ drop (n + 2) bytes) all
+    ∙ ap (λ (o : Outcome). on_step (step strict) (at + 1 + 1 + length (take n bytes)) o (run (step strict) (58 ∷ drop (n + 2) bytes) (at + 1 + 1 + length (take n bytes) + 1))) (named_twice fs (ms ++ ((name, v) ∷ [])) (at + 1) (take n bytes) is_old)) in
+    ap whole reached
+
+-- strings
+pub string_taken : (fs : Frames) (at n : ℕ) (bytes after : List ℕ) → AllPlain (take n bytes) → drop n bytes ≡ 34 ∷ after
+    → run (step strict) (take (n + 2) (34 ∷ bytes)) at (record { mode = m.Value; frames = fs }) ≡ Ok (record { mode = m.After (j.Str (take n bytes)); frames = fs })
+unfolding run step value_step begin scan plain_scan
+string_taken fs at n bytes after all is =
+    let le : n ≤ length bytes = omega (arith, length-drop n bytes, ap length is) in
+    let front : take (n + 1) bytes ≡ take n bytes ++ (34 ∷ []) = take-add n 1 bytes ∙ ap (λ (w : List ℕ). take n bytes ++ take 1 w) is in
+    ap (λ (w : List ℕ). run (step strict) w at (record { mode = m.Value; frames = fs })) (take_more (n + 2) (n + 1) 34 bytes (omega arith) ∙ ap (λ (w : List ℕ). 34 ∷ w) front)
+    ∙ run_both (step strict) (take n bytes) (34 ∷ []) (at + 1) _ _ (plain_runs (take n bytes) (at + 1) [] fs all)
+
+pub string_begun : (fs : Frames) (at n : ℕ) (bytes : List ℕ) → n ≤ length bytes → AllPlain (take n bytes)
+    → Takes (34 ∷ bytes) at (record { mode = m.Value; frames = fs }) (Ok (n + 1)) (record { mode = m.Str p.Plain (take n bytes); frames = fs })
+unfolding run step value_step begin
+string_begun fs at n bytes le all = (
+  omega arith,
+  (λ _. omega arith),
+  ap (λ (w : List ℕ). run (step strict) w at (record { mode = m.Value; frames = fs })) (take_more (n + 1) n 34 bytes (omega arith))
+      ∙ plain_runs (take n bytes) (at + 1) [] fs all,
+)
+
+-- numbers
+pub number_runs : (bs : List ℕ) (at : ℕ) (part last : Digit) (text : List ℕ) (fs : Frames) → Follows part bs last
+    → run (step strict) bs at (record { mode = m.Number part text; frames = fs }) ≡ Ok (record { mode = m.Number last (text ++ bs); frames = fs })
+unfolding run step number_step
+number_runs [] at part last text fs is = ap (λ (k : Digit). Ok (record { mode = m.Number k text; frames = fs })) is ∙ ap (λ (k : List ℕ). Ok (record { mode = m.Number last k; frames = fs })) (sym (append-nil text))
+number_runs (b ∷ bs) at part last text fs (next, is, more) =
+    ap (λ (o : Option Digit). on_step (step strict) at (number_go fs part text b o) (run (step strict) bs (at + 1))) is
+    ∙ (number_runs bs (at + 1) next last (text ++ (b ∷ [])) fs more ∙ ap (λ (k : List ℕ). Ok (record { mode = m.Number last k; frames = fs })) (append_assoc text (b ∷ []) bs))
+
+pub number_taken : (fs : Frames) (at : ℕ) (b : ℕ) (bs : List ℕ) (part last : Digit) → number_start b ≡ Some part → Follows part bs last
+    → run (step strict) (b ∷ bs) at (record { mode = m.Value; frames = fs }) ≡ Ok (record { mode = m.Number last (b ∷ bs); frames = fs })
+unfolding run step value_step
+number_taken fs at b bs part last starts follows =
+    ap (λ (k : Bool). on_step (step strict) at (cond k (to m.Value fs) (begin 64 fs b)) (run (step strict) bs (at + 1))) (number_not_blank b part starts)
+    ∙ (ap (λ (o : Outcome). on_step (step strict) at o (run (step strict) bs (at + 1))) (number_begins 64 fs b part starts) ∙ number_runs bs (at + 1) part last (b ∷ []) fs follows)
+
+ends_as_value : (at : ℕ) (b : ℕ) (part : Digit) (text : List ℕ) (fs : Frames) → number_next part b ≡ None → may_end part ≡ true
+    → step strict at (record { mode = m.Number part text; frames = fs }) b ≡ step strict at (record { mode = m.After (j.Number text); frames = fs }) b
+unfolding step number_step
+ends_as_value at b part text fs stops may = ap (number_go fs part text b) stops ∙ ap (λ (k : Bool). cond k (after_step fs (j.Number text) b) (Err e.Syntax)) may
+
+pub number_ok : (bytes : List ℕ) (at k : ℕ) (part : Digit) (text : List ℕ) (fs : Frames) (z : State) → Stops part bytes → may_end part ≡ true → 0 < length bytes
+    → Takes bytes at (record { mode = m.After (j.Number text); frames = fs }) (Ok k) z → Takes bytes at (record { mode = m.Number part text; frames = fs }) (Ok k) z
+unfolding run
+number_ok [] at k part text fs z stops may some taken = absurd (omega arith)
+number_ok (b ∷ bs) at zero part text fs z stops may some taken = absurd (omega (arith, taken.1 some))
+number_ok (b ∷ bs) at (suc k) part text fs z stops may some taken =
+    (taken.0, taken.1, ap (λ (o : Outcome). on_step (step strict) at o (run (step strict) (take k bs) (at + 1))) (ends_as_value at b part text fs stops may) ∙ taken.2)
+
+pub number_err : (bytes : List ℕ) (at : ℕ) (part : Digit) (text : List ℕ) (fs : Frames) (z : State) (fault : JsonFault) → Stops part bytes → may_end part ≡ true → 0 < length bytes
+    → Takes bytes at (record { mode = m.After (j.Number text); frames = fs }) (Err fault) z → Takes bytes at (record { mode = m.Number part text; frames = fs }) (Err fault) z
+unfolding run
+number_err [] at part text fs z fault stops may some failed = absurd (omega arith)
+number_err (b ∷ bs) at part text fs z fault stops may some failed = λ not.
+    ap (λ (o : Outcome). whole (on_step (step strict) at o (run (step strict) bs (at + 1)))) (ends_as_value at b part text fs stops may) ∙ failed not
+
+pub number_cut : (bytes : List ℕ) (at : ℕ) (part : Digit) (text : List ℕ) (fs : Frames) (z : State) → Stops part bytes → may_end part ≡ false → 0 < length bytes
+    → Takes bytes at (record { mode = m.Number part text; frames = fs }) (Err (faults.Syntax at)) z
+unfolding run step number_step
+number_cut [] at part text fs z stops may some = absurd (omega arith)
+number_cut (b ∷ bs) at part text fs z stops may some = λ _.
+    ap (λ (o : Option Digit). whole (on_step (step strict) at (number_go fs part text b o) (run (step strict) bs (at + 1)))) stops
+    ∙ ap (λ (k : Bool). whole (on_step (step strict) at (cond k (after_step fs (j.Number text) b) (Err e.Syntax)) (run (step strict) bs (at + 1)))) may
+
+-- scans
+space_and : (xs : List ℕ) (b : ℕ) → IsSpace xs → is_blank b ≡ true → IsSpace (xs ++ (b ∷ []))
+space_and [] b all is = (is, tt)
+space_and (x ∷ xs) b all is = (all.0, space_and xs b all.1 is)
+
+pub space_more : (xs : List ℕ) (i : ℕ) → i < length xs → IsSpace (take i xs) → is_blank (get_or xs i 0) ≡ true → IsSpace (take (i + 1) xs)
+space_more xs i lt all is = rw (add-one, take-suc xs i 0) (space_and (take i xs) (get_or xs i 0) all is)
+
+follows_and : (xs : List ℕ) (b : ℕ) (start part next : Digit) → Follows start xs part → number_next part b ≡ Some next → Follows start (xs ++ (b ∷ [])) next
+follows_and [] b start part next same is = (next, ap (λ (k : Digit). number_next k b) same ∙ is, refl)
+follows_and (x ∷ xs) b start part next (mid, one, more) is = (mid, one, follows_and xs b mid part next more is)
+
+pub follows_more : (xs : List ℕ) (i : ℕ) (start part next : Digit) → i < length xs → Follows start (take i xs) part → number_next part (get_or xs i 0) ≡ Some next → Follows start (take (i + 1) xs) next
+follows_more xs i start part next lt so_far is = rw (add-one, take-suc xs i 0) (follows_and (take i xs) (get_or xs i 0) start part next so_far is)
+
+pub stops_here : (xs : List ℕ) (i : ℕ) (part : Digit) → i < length xs → number_next part (get_or xs i 0) ≡ None → Stops part (drop i xs)
+stops_here xs i part lt is = rw (drop-cons xs i 0 lt) is
+
+pub stops_end : (xs : List ℕ) (i : ℕ) (part : Digit) → length xs ≤ i → Stops part (drop i xs)
+stops_end xs i part le = rw (drop_all i xs le) tt
+
+-- frames
+pub popped : (old new : Frames) (last : Frame) → old ≡ new ++ (last ∷ []) → reverse old ≡ last ∷ reverse new
+popped old new last is = ap reverse is ∙ reverse-append new (last ∷ [])
+
+pub comma_none : (old : Frames) (v : Json) (bs : List ℕ) (at : ℕ) (y : State) → old ≡ [] → Takes (44 ∷ bs) at (record { mode = m.After v; frames = reverse old }) (Err (faults.Syntax at)) y
+unfolding run step after_step
+comma_none old v bs at y is = λ _. ap (λ (fs : Frames). whole (run (step strict) (44 ∷ bs) at (record { mode = m.After v; frames = reverse fs }))) is
+
+pub comma_item : (old new : Frames) (items : List Json) (v : Json) (bs : List ℕ) (at : ℕ) (y : State) → old ≡ new ++ (f.List items ∷ []) → after_by (f.List items ∷ reverse new) v 44 ≡ Ok y
+    → Takes (44 ∷ bs) at (record { mode = m.After v; frames = reverse old }) (Ok 1) y
+comma_item old new items v bs at y is made = after_taken 44 bs at v (reverse old) y (comma_by (reverse old) v ∙ (ap (λ (fs : Frames). after_by fs v 44) (popped old new (f.List items) is) ∙ made))
+
+pub comma_item_refused : (old new : Frames) (items : List Json) (v : Json) (bs : List ℕ) (at : ℕ) (y : State) (why : Refusal) (fault : JsonFault) → old ≡ new ++ (f.List items ∷ []) → fault ≡ placed why at
+    → (why ≢ e.Memory → after_by (f.List items ∷ reverse new) v 44 ≡ Err why) → Takes (44 ∷ bs) at (record { mode = m.After v; frames = reverse old }) (Err fault) y
+comma_item_refused old new items v bs at y why fault is placed_at made =
+    after_refused 44 bs at v (reverse old) y why fault placed_at (λ not. comma_by (reverse old) v ∙ (ap (λ (fs : Frames). after_by fs v 44) (popped old new (f.List items) is) ∙ made not))
+
+-- a whole string, and what follows it
+at_value : (mode : Mode) (fs : Frames) (bytes : List ℕ) (at : ℕ) (r : Result ℕ JsonFault) (z : State) → mode ≡ m.Value → Takes bytes at (record { mode = m.Value; frames = fs }) r z → Takes bytes at (record { mode = mode; frames = fs }) r z
+at_value mode fs bytes at r z is taken = subst (λ (q : Mode). Takes bytes at (record { mode = q; frames = fs }) r z) (sym is) taken
+
+past : (n : ℕ) (b : ℕ) (bytes : List ℕ) → drop (n + 1) (b ∷ bytes) ≡ drop n bytes
+past n b bytes = ap (λ (q : ℕ). drop q (b ∷ bytes)) (let x : n + 1 ≡ suc n = omega arith in x)
+
+-- the slice from a place on
+rest_is : (n : ℕ) (bytes : List ℕ) → n ≤ length bytes → take (length bytes - n) (drop n bytes) ≡ drop n bytes
+rest_is n bytes le = ap (λ (q : ℕ). take q (drop n bytes)) (sym (length-drop n bytes)) ∙ take-length (drop n bytes)
+
+quoted_next : (n : ℕ) (bytes : List ℕ) → n < length bytes → get_or bytes n 0 ≡ 34 → drop n bytes ≡ 34 ∷ drop (n + 1) bytes
+quoted_next n bytes lt is = drop-cons bytes n 0 lt ∙ (ap (λ (c : ℕ). c ∷ drop (suc n) bytes) is ∙ ap (λ (q : ℕ). 34 ∷ drop q bytes) (sym (add-one n)))
+
+past_quote : (n : ℕ) (bytes : List ℕ) → n < length bytes → drop (n + 2) (34 ∷ bytes) ≡ take (length bytes - (n + 1)) (drop (n + 1) bytes)
+past_quote n bytes lt =
+    ap (λ (q : ℕ). drop q (34 ∷ bytes)) (let x : n + 2 ≡ suc (n + 1) = omega arith in x) ∙ sym (rest_is (n + 1) bytes (omega arith))
+
+pub string_ok : (mode : Mode) (fs : Frames) (at n k : ℕ) (bytes text : List ℕ) (z : State) → mode ≡ m.Value → AllPlain (take n bytes) → n < length bytes → get_or bytes n 0 ≡ 34 → text ≡ take n bytes
+    → Takes (take (length bytes - (n + 1)) (drop (n + 1) bytes)) (at + (n + 2)) (record { mode = m.After (j.Str text); frames = fs }) (Ok k) z → Takes (34 ∷ bytes) at (record { mode = mode; frames = fs }) (Ok (n + 2 + k)) z
+string_ok mode fs at n k bytes text z is all lt cut same next =
+    at_value mode fs (34 ∷ bytes) at (Ok (n + 2 + k)) z is
+    (then_ok (34 ∷ bytes) _ (n + 2) k at _ (record { mode = m.After (j.Str text); frames = fs }) z (past_quote n bytes lt) (omega arith) (omega arith)
+    (string_taken fs at n bytes (drop (n + 1) bytes) all (quoted_next n bytes lt cut) ∙ ap (λ (t : List ℕ). Ok (record { mode = m.After (j.Str t); frames = fs })) (sym same)) next)
+
+pub string_err : (mode : Mode) (fs : Frames) (at n : ℕ) (bytes text : List ℕ) (z z' : State) (fault : JsonFault) → mode ≡ m.Value → AllPlain (take n bytes) → n < length bytes → get_or bytes n 0 ≡ 34 → text ≡ take n bytes
+    → Takes (take (length bytes - (n + 1)) (drop (n + 1) bytes)) (at + (n + 2)) (record { mode = m.After (j.Str text); frames = fs }) (Err fault) z' → Takes (34 ∷ bytes) at (record { mode = mode; frames = fs }) (Err fault) z
+string_err mode fs at n bytes text z z' fault is all lt cut same next =
+    at_value mode fs (34 ∷ bytes) at (Err fault) z is
+    (then_err (34 ∷ bytes) _ (n + 2) at _ (record { mode = m.After (j.Str text); frames = fs }) z z' fault (past_quote n bytes lt) (omega arith)
+    (string_taken fs at n bytes (drop (n + 1) bytes) all (quoted_next n bytes lt cut) ∙ ap (λ (t : List ℕ). Ok (record { mode = m.After (j.Str t); frames = fs })) (sym same)) next)
+
+pub string_open : (mode : Mode) (fs : Frames) (at n : ℕ) (bytes text : List ℕ) → mode ≡ m.Value → n ≤ length bytes → AllPlain (take n bytes) → text ≡ take n bytes
+    → Takes (34 ∷ bytes) at (record { mode = mode; frames = fs }) (Ok (n + 1)) (record { mode = m.Str p.Plain text; frames = fs })
+string_open mode fs at n bytes text is le all same =
+    at_value mode fs (34 ∷ bytes) at (Ok (n + 1)) _ is (subst (λ (t : List ℕ). Takes (34 ∷ bytes) at (record { mode = m.Value; frames = fs }) (Ok (n + 1)) (record { mode = m.Str p.Plain t; frames = fs })) (sym same) (string_begun fs at n bytes le all))
+
+-- a whole number, and what follows it
+number_read : (mode : Mode) (fs : Frames) (at n b : ℕ) (bytes text : List ℕ) (part last : Digit) → mode ≡ m.Value → number_start b ≡ Some part → Follows part (take n bytes) last → text ≡ b ∷ take n bytes
+    → run (step strict) (take (n + 1) (b ∷ bytes)) at (record { mode = mode; frames = fs }) ≡ Ok (record { mode = m.Number last text; frames = fs })
+number_read mode fs at n b bytes text part last is starts follows same =
+    ap (λ (w : List ℕ). run (step strict) w at (record { mode = mode; frames = fs })) (take_more (n + 1) n b bytes (omega arith))
+    ∙ (ap (λ (q : Mode). run (step strict) (b ∷ take n bytes) at (record { mode = q; frames = fs })) is
+    ∙ (number_taken fs at b (take n bytes) part last starts follows ∙ ap (λ (t : List ℕ). Ok (record { mode = m.Number last t; frames = fs })) (sym same)))
+
+pub number_open : (mode : Mode) (fs : Frames) (at n b : ℕ) (bytes text : List ℕ) (part last : Digit) → mode ≡ m.Value → n ≤ length bytes → number_start b ≡ Some part → Follows part (take n bytes) last → text ≡ b ∷ take n bytes
+    → Takes (b ∷ bytes) at (record { mode = mode; frames = fs }) (Ok (n + 1)) (record { mode = m.Number last text; frames = fs })
+number_open mode fs at n b bytes text part last is le starts follows same = (omega arith, (λ _. omega arith), number_read mode fs at n b bytes text part last is starts follows same)
+
+pub number_then : (mode : Mode) (fs : Frames) (at n k b : ℕ) (bytes text : List ℕ) (part last : Digit) (z : State) → mode ≡ m.Value → n < length bytes → number_start b ≡ Some part → Follows part (take n bytes) last
+    → text ≡ b ∷ take n bytes → Stops last (drop n bytes) → may_end last ≡ true
+    → Takes (take (length bytes - n) (drop n bytes)) (at + (n + 1)) (record { mode = m.After (j.Number text); frames = fs }) (Ok k) z → Takes (b ∷ bytes) at (record { mode = mode; frames = fs }) (Ok (n + 1 + k)) z
+number_then mode fs at n k b bytes text part last z is lt starts follows same stops may next =
+    let all = rest_is n bytes (omega arith) in
+    let some : 0 < length (take (length bytes - n) (drop n bytes)) = omega (arith, ap length (rest_is n bytes (omega arith)), length-drop n bytes) in
+    then_ok (b ∷ bytes) _ (n + 1) k at _ (record { mode = m.Number last text; frames = fs }) z (past n b bytes ∙ sym all) (omega arith) (omega arith)
+    (number_read mode fs at n b bytes text part last is starts follows same) (number_ok _ (at + (n + 1)) k last text fs z (subst (λ (w : List ℕ). Stops last w) (sym all) stops) may some next)
+
+pub number_then_err : (mode : Mode) (fs : Frames) (at n b : ℕ) (bytes text : List ℕ) (part last : Digit) (z z' : State) (fault : JsonFault) → mode ≡ m.Value → n < length bytes → number_start b ≡ Some part → Follows part (take n bytes) last
+    → text ≡ b ∷ take n bytes → Stops last (drop n bytes) → may_end last ≡ true
+    → Takes (take (length bytes - n) (drop n bytes)) (at + (n + 1)) (record { mode = m.After (j.Number text); frames = fs }) (Err fault) z' → Takes (b ∷ bytes) at (record { mode = mode; frames = fs }) (Err fault) z
+number_then_err mode fs at n b bytes text part last z z' fault is lt starts follows same stops may next =
+    let all = rest_is n bytes (omega arith) in
+    let some : 0 < length (take (length bytes - n) (drop n bytes)) = omega (arith, ap length (rest_is n bytes (omega arith)), length-drop n bytes) in
+    then_err (b ∷ bytes) _ (n + 1) at _ (record { mode = m.Number last text; frames = fs }) z z' fault (past n b bytes ∙ sym all) (omega arith)
+    (number_read mode fs at n b bytes text part last is starts follows same) (number_err _ (at + (n + 1)) last text fs z' fault (subst (λ (w : List ℕ). Stops last w) (sym all) stops) may some next)
+
+pub number_bad : (mode : Mode) (fs : Frames) (at n b : ℕ) (bytes text : List ℕ) (part last : Digit) (z : State) → mode ≡ m.Value → n < length bytes → number_start b ≡ Some part → Follows part (take n bytes) last
+    → text ≡ b ∷ take n bytes → Stops last (drop n bytes) → may_end last ≡ false
+    → Takes (b ∷ bytes) at (record { mode = mode; frames = fs }) (Err (faults.Syntax (at + (n + 1)))) z
+number_bad mode fs at n b bytes text part last z is lt starts follows same stops may =
+    let all = rest_is n bytes (omega arith) in
+    let some : 0 < length (take (length bytes - n) (drop n bytes)) = omega (arith, ap length (rest_is n bytes (omega arith)), length-drop n bytes) in
+    then_err (b ∷ bytes) _ (n + 1) at _ (record { mode = m.Number last text; frames = fs }) z z _ (past n b bytes ∙ sym all) (omega arith)
+    (number_read mode fs at n b bytes text part last is starts follows same) (number_cut _ (at + (n + 1)) last text fs z (subst (λ (w : List ℕ). Stops last w) (sym all) stops) may some)
+
+pub number_utf8 : (n b : ℕ) (bytes text : List ℕ) (part last : Digit) → number_start b ≡ Some part → Follows part (take n bytes) last → text ≡ b ∷ take n bytes → may_end last ≡ true → IsUtf8 text
+number_utf8 n b bytes text part last starts follows same may =
+    subst (λ (t : List ℕ). IsUtf8 t) (sym same)
+    (number_ends last (b ∷ take n bytes) (run_holds (b ∷ take n bytes) 0 (record { mode = m.Value; frames = [] }) (record { mode = m.Number last (b ∷ take n bytes); frames = [] }) tt (number_taken [] 0 b (take n bytes) part last starts follows)) may)
+
+-- the first item of a list begins as a value does
+first_begins : (fs : Frames) (at b : ℕ) → is_blank b ≡ false → (b == 93) ≡ false → step strict at (record { mode = m.First; frames = fs }) b ≡ step strict at (record { mode = m.Value; frames = f.List [] ∷ fs }) b
+unfolding step first_step value_step
+first_begins fs at b not_blank not_end = rw (not_blank, not_end) refl
+
+pub first_ok : (mode : Mode) (fs fs' : Frames) (at b k : ℕ) (bs : List ℕ) (z : State) → mode ≡ m.First → fs' ≡ f.List [] ∷ fs → is_blank b ≡ false → (b == 93) ≡ false
+    → Takes (b ∷ bs) at (record { mode = m.Value; frames = fs' }) (Ok k) z → Takes (b ∷ bs) at (record { mode = mode; frames = fs }) (Ok k) z
+unfolding run
+first_ok mode fs fs' at b zero bs z is pushed not_blank not_end taken = absurd (omega (arith, taken.1 (omega arith)))
+first_ok mode fs fs' at b (suc k) bs z is pushed not_blank not_end taken =
+    let as_value : Takes (b ∷ bs) at (record { mode = m.Value; frames = f.List [] ∷ fs }) (Ok (suc k)) z = subst (λ (q : Frames). Takes (b ∷ bs) at (record { mode = m.Value; frames = q }) (Ok (suc k)) z) pushed taken in
+    subst (λ (q : Mode). Takes (b ∷ bs) at (record { mode = q; frames = fs }) (Ok (suc k)) z) (sym is)
+    (as_value.0, as_value.1, ap (λ (o : Outcome). on_step (step strict) at o (run (step strict) (take k bs) (at + 1))) (first_begins fs at b not_blank not_end) ∙ as_value.2)
+
+pub first_err : (mode : Mode) (fs fs' : Frames) (at b : ℕ) (bs : List ℕ) (z : State) (fault : JsonFault) → mode ≡ m.First → fs' ≡ f.List [] ∷ fs → is_blank b ≡ false → (b == 93) ≡ false
+    → Takes (b ∷ bs) at (record { mode = m.Value; frames = fs' }) (Err fault) z → Takes (b ∷ bs) at (record { mode = mode; frames = fs }) (Err fault) z
+unfolding run
+first_err mode fs fs' at b bs z fault is pushed not_blank not_end failed = λ not.
+    ap (λ (q : Mode). whole (run (step strict) (b ∷ bs) at (record { mode = q; frames = fs }))) is
+    ∙ (ap (λ (o : Outcome). whole (on_step (step strict) at o (run (step strict) bs (at + 1)))) (first_begins fs at b not_blank not_end)
+    ∙ (ap (λ (q : Frames). whole (run (step strict) (b ∷ bs) at (record { mode = m.Value; frames = q }))) (sym pushed) ∙ failed not))
+
+pub first_as_value : (mode : Mode) (fs fs' : Frames) (at b : ℕ) (bs : List ℕ) (r : Result ℕ JsonFault) (z : State) → mode ≡ m.First → fs' ≡ f.List [] ∷ fs → is_blank b ≡ false → (b == 93) ≡ false
+    → Takes (b ∷ bs) at (record { mode = m.Value; frames = fs' }) r z → Takes (b ∷ bs) at (record { mode = mode; frames = fs }) r z
+first_as_value mode fs fs' at b bs (Ok k) z is pushed not_blank not_end taken = first_ok mode fs fs' at b k bs z is pushed not_blank not_end taken
+first_as_value mode fs fs' at b bs (Err fault) z is pushed not_blank not_end taken = first_err mode fs fs' at b bs z fault is pushed not_blank not_end taken
+
+pub next_name_pushed : (old new : Frames) (ms ms' : Pairs) (name next : List ℕ) (v : Json) (at n : ℕ) (bytes : List ℕ) → n + 2 ≤ length bytes → AllPlain (take n bytes) → take (n + 2) bytes ≡ take n bytes ++ (34 ∷ (58 ∷ []))
+    → ms' ≡ ms ++ ((name, v) ∷ []) → next ≡ take n bytes → has ms' next ≡ false → new ≡ old ++ (f.Member ms' next ∷ [])
+    → Takes (44 ∷ (34 ∷ bytes)) at (record { mode = m.After v; frames = f.Member ms name ∷ reverse old }) (Ok (n + 4)) (record { mode = m.Value; frames = reverse new })
+next_name_pushed old new ms ms' name next v at n bytes le all ends grown same is_new pushed =
+    let fs : reverse new ≡ f.Member (ms ++ ((name, v) ∷ [])) (take n bytes) ∷ reverse old =
+    popped new old (f.Member ms' next) pushed ∙ (ap (λ (q : Pairs). f.Member q next ∷ reverse old) grown ∙ ap (λ (t : List ℕ). f.Member (ms ++ ((name, v) ∷ [])) t ∷ reverse old) same) in
+    let fresh : has (ms ++ ((name, v) ∷ [])) (take n bytes) ≡ false =
+    ap (λ (t : List ℕ). has (ms ++ ((name, v) ∷ [])) t) (sym same) ∙ (ap (λ (q : Pairs). has q next) (sym grown) ∙ is_new) in
+    subst (λ (q : Frames). Takes (44 ∷ (34 ∷ bytes)) at (record { mode = m.After v; frames = f.Member ms name ∷ reverse old }) (Ok (n + 4)) (record { mode = m.Value; frames = q })) (sym fs)
+    (next_name_taken (reverse old) ms name v at n bytes le all ends fresh)
+
+pub first_name_pushed : (old new : Frames) (mode : Mode) (name : List ℕ) (at b n : ℕ) (bytes : List ℕ) → b ≡ 34 → mode ≡ m.FirstName → n + 2 ≤ length bytes → AllPlain (take n bytes) → take (n + 2) bytes ≡ take n bytes ++ (34 ∷ (58 ∷ []))
+    → name ≡ take n bytes → new ≡ old ++ (f.Member [] name ∷ [])
+    → Takes (b ∷ bytes) at (record { mode = mode; frames = reverse old }) (Ok (n + 3)) (record { mode = m.Value; frames = reverse new })
+first_name_pushed old new mode name at b n bytes quote is le all ends same pushed =
+    let fs : reverse new ≡ f.Member [] (take n bytes) ∷ reverse old =
+    popped new old (f.Member [] name) pushed ∙ ap (λ (t : List ℕ). f.Member [] t ∷ reverse old) same in
+    subst (λ (c : ℕ). Takes (c ∷ bytes) at (record { mode = mode; frames = reverse old }) (Ok (n + 3)) (record { mode = m.Value; frames = reverse new })) (sym quote)
+    (subst (λ (q : Frames). Takes (34 ∷ bytes) at (record { mode = mode; frames = reverse old }) (Ok (n + 3)) (record { mode = m.Value; frames = q })) (sym fs)
+    (first_name_taken (reverse old) mode at n bytes is le all ends))
+
+pub first_pushed : (old new : Frames) (mode : Mode) (at b : ℕ) (bs : List ℕ) (r : Result ℕ JsonFault) (z : State) → mode ≡ m.First → new ≡ old ++ (f.List [] ∷ []) → is_blank b ≡ false → (b ≡ 93 → ⊥)
+    → Takes (b ∷ bs) at (record { mode = m.Value; frames = reverse new }) r z → Takes (b ∷ bs) at (record { mode = mode; frames = reverse old }) r z
+first_pushed old new mode at b bs r z is pushed not_blank not_end taken = first_as_value mode (reverse old) (reverse new) at b bs r z is (popped new old (f.List []) pushed) not_blank (ne_eqb b 93 not_end) taken
+
+-- the loop over the text
+pub takes_on : (bytes : List ℕ) (at n : ℕ) (x y : State) (total : Result State (Refusal × ℕ)) → at < length bytes → Takes (take (length bytes - at) (drop at bytes)) at x (Ok n) y → run (step strict) (drop at bytes) at x ≡ total
+    → (0 < n) × (at + n ≤ length bytes) × (run (step strict) (drop (at + n) bytes) (at + n) y ≡ total)
+takes_on bytes at n x y total lt taken so_far =
+    let now : Takes (drop at bytes) at x (Ok n) y = subst (λ (w : List ℕ). Takes w at x (Ok n) y) (rest_is at bytes (omega arith)) taken in
+    let far : at + n ≤ length bytes = omega (arith, length-drop at bytes, now.0) in
+    let long : length (take n (drop at bytes)) ≡ n = length-take-le n (drop at bytes) now.0 in
+    let all : run (step strict) (drop at bytes) at x ≡ run (step strict) (drop (at + n) bytes) (at + n) y =
+    ap (λ (w : List ℕ). run (step strict) w at x) (sym (take-append-drop n (drop at bytes)) ∙ ap (λ (w : List ℕ). take n (drop at bytes) ++ w) (drop-drop n at bytes))
+    ∙ (run_both (step strict) (take n (drop at bytes)) (drop (at + n) bytes) at x y now.2 ∙ ap (λ (q : ℕ). run (step strict) (drop (at + n) bytes) (at + q) y) long) in
+    (now.1 (omega (arith, length-drop at bytes)), far, sym all ∙ so_far)
+
+pub takes_fault : (bytes : List ℕ) (at : ℕ) (x y : State) (total : Result State (Refusal × ℕ)) (fault : JsonFault) → at < length bytes → Takes (take (length bytes - at) (drop at bytes)) at x (Err fault) y
+    → run (step strict) (drop at bytes) at x ≡ total → fault ≢ faults.Memory → whole total ≡ Err fault
+takes_fault bytes at x y total fault lt failed so_far not =
+    let now : Takes (drop at bytes) at x (Err fault) y = subst (λ (w : List ℕ). Takes w at x (Err fault) y) (rest_is at bytes (omega arith)) failed in
+    ap whole (sym so_far) ∙ now not

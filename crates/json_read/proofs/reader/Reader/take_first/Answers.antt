@@ -1,0 +1,10 @@
+use Rattle.std.proofs.Common.{List, [], ◌∷◌, ◌++◌, arith, ap, sym, ◌∙◌}
+use Rattle.json_value.specs.declared.tree.Json.{Json}
+use Rattle.json_read.specs.declared.reader.Frame.TheVariants as f
+use Rattle.json_read.specs.View.{state_of}
+use Rattle.json_read.proofs.Taken.{first_pushed}
+use Rattle.json_read.proofs.reader.Reader.take_first.Goals as goal
+
+pub returns : goal.returns
+returns c =
+    first_pushed c.args.self.now.frames c.push.new.self c.args.self.now.mode c.args.at c.args.byte c.args.tail.now c.take_value.result (state_of c.take_value.new.self) c.requires.mode (c.in_ok-push.ensures.ok ∙ ap (λ (q : List Json). c.args.self.now.frames ++ (f.List q ∷ [])) c.new.ensures) (sym c.is_blank.ensures ∙ c.if-is_blank.false) (λ same. omega arith) c.take_value.ensures
