@@ -18,3 +18,6 @@ mod stage;
 
 pub use command::rehearse;
 pub use laws::{a_front_is_a_front, a_line_has_one_reply, lines_have_one_text};
+
+#[cfg(test)]
+mod tests;
