@@ -37,3 +37,59 @@ fn words_pick_the_command(rt: HostRuntime) -> Result<(), Fail> {
     }
     Ok(())
 }
+
+// So many of one letter.
+fn letters(alloc: Global, count: usize) -> Result<String, Memory> {
+    let mut text = String::new(alloc);
+    for _ in 0..count {
+        text.push('x')?;
+    }
+    Ok(text)
+}
+
+// Whether a piece with a selection of so many letters is asked with this reply.
+fn asks(alloc: Global, count: usize, reply: &str) -> Result<bool, Memory> {
+    let selection = letters(alloc, count)?;
+    let script = format!(in alloc; "begin 1\nlook 1 - 0 a T r {selection}\n")?;
+    let output = format!(in alloc; "epoch 0\n{reply}\n")?;
+    gives(
+        alloc,
+        "rehearse 64 4096",
+        script.as_str(),
+        output.as_str(),
+        0,
+    )
+}
+
+// Whether a piece with these tags is settled with this reply.
+fn settles(alloc: Global, tags: &str, reply: &str) -> Result<bool, Memory> {
+    let script = format!(in alloc;
+        "begin 1\nlook 1 - 0 a T r s\nsettle 0.0 60 0 public {tags} v\n"
+    )?;
+    let output = format!(in alloc; "epoch 0\n0 miss 0.0\n{reply}\n")?;
+    gives(
+        alloc,
+        "rehearse 64 4096",
+        script.as_str(),
+        output.as_str(),
+        0,
+    )
+}
+
+#[test]
+fn keys_and_tags_have_their_limits(rt: HostRuntime) -> Result<(), Fail> {
+    let alloc = rt.alloc();
+    assert!(rt; asks(alloc, 16381, "0 miss 0.0")?);
+    assert!(rt; asks(alloc, 16382, "bypass wide 16385 16384")?);
+    assert!(rt; settles(alloc, letters(alloc, 128)?.as_str(), "2 stored")?);
+    assert!(rt; settles(alloc, letters(alloc, 129)?.as_str(), "2 unstorable tagform")?);
+    assert!(rt; settles(alloc, "a,b,c,d,e,f,g,h,i,j,k,l,m,n,o,p,a", "2 stored")?);
+    assert!(rt;
+        settles(
+            alloc,
+            "a,b,c,d,e,f,g,h,i,j,k,l,m,n,o,p,q",
+            "2 unstorable tagcount 17"
+        )?
+    );
+    Ok(())
+}
