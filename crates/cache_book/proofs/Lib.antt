@@ -5,3 +5,5 @@ pub mod Owing
 pub mod Telling
 pub mod Determined
 pub mod Stepping
+pub mod Answered
+pub mod Outliving

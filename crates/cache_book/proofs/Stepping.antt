@@ -141,7 +141,7 @@ asks_legal limits pass id now [] J (a ∷ answers) K legal room all = absurd all
 asks_legal limits pass id now (k ∷ keys) J [] K legal room all = absurd all
 
 -- a look that is not bypassed has room for three events an ask
-room_of_look : (s : State) (pass : Pinned) (n : ℕ) → bypass_mark s pass n ≡ None → length s.journal + reserved s.journal + 3 * n ≤ s.limits.events
+pub room_of_look : (s : State) (pass : Pinned) (n : ℕ) → bypass_mark s pass n ≡ None → length s.journal + reserved s.journal + 3 * n ≤ s.limits.events
 room_of_look s pass n is = from (s.epoch == 2 ^ 64 - 1) (not (pass.epoch == s.epoch)) (nat_lt s.limits.events (length s.journal + reserved s.journal + 3 * n)) refl is
   where
     from : (a b c : Bool) → nat_lt s.limits.events (length s.journal + reserved s.journal + 3 * n) ≡ c → (if a then Some mark.Retired else (if b then Some (mark.Over pass.epoch s.epoch) else (if c then Some (mark.Full (length s.journal) (reserved s.journal) (min (3 * n) (2 ^ 64 - 1)) s.limits.events) else None))) ≡ None → length s.journal + reserved s.journal + 3 * n ≤ s.limits.events

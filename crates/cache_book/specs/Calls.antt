@@ -12,6 +12,7 @@ use Rattle.cache_book.specs.Step.{Pinned, Granted}
 use Rattle.cache_book.specs.Settling.{Settles, MaySettle, IsInRange}
 use Rattle.cache_book.specs.Looking.{Looks}
 use Rattle.cache_book.specs.Voiding.{Voids, tally_of}
+use Rattle.cache_book.specs.Owed.{Differ}
 
 -- a call with what it is given
 pub data Call : Type 0 where
@@ -52,6 +53,15 @@ Step old call answer new = ⊥
 abbrev pub MayCall : State → Call → Type 0
 MayCall old (Settle permit report) = MaySettle old permit × IsInRange report
 MayCall old other = Unit {0}
+
+-- no answer but want of memory can come
+abbrev pub IsStuck : State → Call → Type 0
+IsStuck old call = (answer : Answer) (new : State) → answer ≢ OutOfMemory → Step old call answer new → ⊥
+
+-- the call does not spend the permit
+abbrev pub Spares : Call → Granted → Type 0
+Spares (Settle permit report) p = Differ p permit
+Spares other p = Unit {0}
 
 -- none of the answers is want of memory
 abbrev pub FoundMemory : List Answer → Type 0

@@ -6,8 +6,9 @@ ghost use Rattle.cache_model.specs.State.{State, IsWithinRanges, IsLegalState, o
 ghost use Rattle.cache_model.specs.Story.{Follows, Without, By};
 ghost use Rattle.cache_book.specs.Step.{Pinned, Granted};
 ghost use Rattle.cache_book.specs.Settling.{MaySettle};
+ghost use Rattle.cache_book.specs.Owed.{AreOwed};
 ghost use Rattle.cache_book.specs.Told.{AreNew, tickets_of};
-ghost use Rattle.cache_book.specs.Calls.{Call, Answer, Look, Looked, OutOfMemory, IsCaller, MayCall, Step, Run, FoundMemory};
+ghost use Rattle.cache_book.specs.Calls.{Call, Answer, Look, Looked, OutOfMemory, IsCaller, MayCall, Step, IsStuck, Spares, Run, FoundMemory};
 
 /// A step from a legal state leaves a legal state.
 pub fn step_is_legal()
@@ -27,6 +28,21 @@ pub fn step_is_by_its_caller()
 /// A look hands out each ticket once, and none that was started before.
 pub fn tickets_are_new()
     ensures { (old : State) (pass : Pinned) (id : Option (List ℕ)) (asks : List Key) (now : ℕ) (answers : List Found) (new : State) → IsLegalState old → Step old (Look pass id asks now) (Looked answers) new → AreNew old.journal (tickets_of answers) }
+{}
+
+/// The permits that a look hands out may be settled.
+pub fn permits_are_owed()
+    ensures { (old : State) (pass : Pinned) (id : Option (List ℕ)) (asks : List Key) (now : ℕ) (answers : List Found) (new : State) → IsLegalState old → Step old (Look pass id asks now) (Looked answers) new → AreOwed new answers }
+{}
+
+/// A step that does not spend a permit leaves it as it is.
+pub fn permits_outlive_a_step()
+    ensures { (old : State) (call : Call) (answer : Answer) (new : State) (permit : Granted) → Step old call answer new → permit.epoch ≤ old.epoch → Spares call permit → MaySettle old permit → MaySettle new permit }
+{}
+
+/// No call is stuck: in a legal state, that it has no answer but want of memory is refuted.
+pub fn no_call_is_stuck()
+    ensures { (old : State) (call : Call) → IsLegalState old → MayCall old call → IsStuck old call → ⊥ }
 {}
 
 /// What other callers do leaves a permit as it is: it may be settled, or its epoch is over.

@@ -21,8 +21,9 @@ pub use answers::{Settled, Tally, Turned, Voided};
 pub use book::Book;
 pub use found::Found;
 pub use laws::{
-    permit_outlives_others, run_follows, run_is_determined, run_is_legal, step_is_by_its_caller,
-    step_is_determined, step_is_legal, tickets_are_new,
+    no_call_is_stuck, permit_outlives_others, permits_are_owed, permits_outlive_a_step,
+    run_follows, run_is_determined, run_is_legal, step_is_by_its_caller, step_is_determined,
+    step_is_legal, tickets_are_new,
 };
 pub use notice::Notice;
 pub use pass::Pass;

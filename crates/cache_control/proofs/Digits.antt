@@ -52,3 +52,11 @@ lifetime_bound (Some ds) age = by (find (has_name (codes "s-maxage")) ds) (find 
 pub verdict_bound : (cache_control age : Option (List ℕ)) → (verdict_of cache_control age).lifetime ≤ 2147483648
 verdict_bound None age = omega arith
 verdict_bound (Some text) age = lifetime_bound (directives_of text) (age_of age)
+
+judged_age : (o : Option (List Directive)) (age : ℕ) → age ≤ 2147483648 → (judged o age).age ≤ 2147483648
+judged_age None age small = small
+judged_age (Some ds) age small = small
+
+pub verdict_age_bound : (cache_control age : Option (List ℕ)) → (verdict_of cache_control age).age ≤ 2147483648
+verdict_age_bound None age = age_bound age
+verdict_age_bound (Some text) age = judged_age (directives_of text) (age_of age) (age_bound age)

@@ -3,4 +3,4 @@ mod Complete
 mod Sound
 mod Laws
 mod Steps
-mod Digits
+pub mod Digits

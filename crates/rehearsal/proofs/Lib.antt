@@ -3,3 +3,4 @@ pub mod Holding
 pub mod Playing
 pub mod Telling
 pub mod Determined
+pub mod Onward

@@ -31,3 +31,7 @@ abbrev pub IsComplete : Extent → Type 0
 IsComplete Whole = Unit {0}
 IsComplete Refused = Unit {0}
 IsComplete Front = ⊥
+
+-- no text that goes on from this one goes to the end of the script, or to a line that is refused
+abbrev pub IsDeadEnd : ℕ → Scene → List (List ℕ) → List ℕ → Type 0
+IsDeadEnd number s lines out = (more : List ℕ) (extent : Extent) → IsComplete extent → Runs number s lines (out ++ more) extent → ⊥

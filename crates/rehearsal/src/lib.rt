@@ -17,7 +17,7 @@ mod play;
 mod stage;
 
 pub use command::rehearse;
-pub use laws::{a_front_is_a_front, a_line_has_one_reply, lines_have_one_text};
+pub use laws::{a_front_goes_on, a_front_is_a_front, a_line_has_one_reply, lines_have_one_text};
 
 #[cfg(test)]
 mod tests;
