@@ -7,6 +7,8 @@
 mod compare;
 mod fault;
 mod members;
+#[cfg(test)]
+mod tests;
 mod tree;
 mod wholes;
 
