@@ -17,7 +17,7 @@ use Rattle.json_read.specs.Machine.{State, Frames, Pairs, step, str_by, naming_b
 use Rattle.json_read.proofs.TextsGo.{plain_steps}
 use Rattle.exact_read.proofs.Machines.{run_both}
 
-plain_scans : (at : ℕ) (text : List ℕ) (b : ℕ) → is_plain b ≡ true → scan false at p.Plain text b ≡ with text (b ∷ [])
+pub plain_scans : (at : ℕ) (text : List ℕ) (b : ℕ) → is_plain b ≡ true → scan false at p.Plain text b ≡ with text (b ∷ [])
 unfolding scan
 plain_scans at text b is =
     let ps = and_parts (within 32 127 b) _ is in

@@ -263,7 +263,7 @@ past : (n : ℕ) (b : ℕ) (bytes : List ℕ) → drop (n + 1) (b ∷ bytes) ≡
 past n b bytes = ap (λ (q : ℕ). drop q (b ∷ bytes)) (let x : n + 1 ≡ suc n = omega arith in x)
 
 -- the slice from a place on
-rest_is : (n : ℕ) (bytes : List ℕ) → n ≤ length bytes → take (length bytes - n) (drop n bytes) ≡ drop n bytes
+pub rest_is : (n : ℕ) (bytes : List ℕ) → n ≤ length bytes → take (length bytes - n) (drop n bytes) ≡ drop n bytes
 rest_is n bytes le = ap (λ (q : ℕ). take q (drop n bytes)) (sym (length-drop n bytes)) ∙ take-length (drop n bytes)
 
 quoted_next : (n : ℕ) (bytes : List ℕ) → n < length bytes → get_or bytes n 0 ≡ 34 → drop n bytes ≡ 34 ∷ drop (n + 1) bytes

@@ -12,6 +12,7 @@ ghost use Rattle.exact_read.specs.Steps.{run};
 ghost use Rattle.json_value.specs.declared.fault.JsonFault.TheVariants as faults;
 ghost use Rattle.json_read.specs.declared.reader.Frame.TheVariants.{List, Member};
 
+mod text;
 mod tokens;
 
 use crate::buffer::Buffer;

@@ -10,6 +10,7 @@ ghost use Rattle.json_read.specs.Numbers.{number_start};
 ghost use Rattle.json_read.specs.declared.reader.Frame.TheVariants.{Member};
 ghost use Rattle.json_read.specs.declared.reader.Mode.TheVariants as modes;
 
+use super::text::{Read, read_on};
 use super::{Frame, Mode, Reader, is_blank, placed};
 use crate::buffer::Buffer;
 use crate::number::{Digit, may_end, number_next, number_start};
@@ -261,16 +262,49 @@ impl Reader {
         }
     }
 
-    fn take_from(&mut self, at: usize, byte: u8, tail: &[u8]) -> Result<usize, JsonFault>
-        requires place { at + length tail.now + 1 < 2 ^ 64 }
-        requires holds { HoldsText (state_of self.old).mode }
-        ensures { Takes (byte ∷ tail.now) at (state_of self.old) result (state_of self.new) }
+    /// In a string.
+    fn take_str(
+        &mut self,
+        at: usize,
+        part: Part,
+        text: Buffer,
+        bytes: &[u8],
+    ) -> Result<usize, JsonFault>
+        requires place { at + length bytes.now < 2 ^ 64 }
+        requires holds { HoldsText (modes.Str part text) }
+        ensures { Takes bytes.now at (record { mode = modes.Str part text; frames = frames_of self.old }) result (state_of self.new) }
     {
-        match &self.mode {
-            Mode::Value => self.take_value(at, byte, tail),
-            Mode::First => self.take_first(at, byte, tail),
-            Mode::FirstName => self.take_first_name(at, byte, tail),
-            _ => self.take_byte(at, byte, tail),
+        match read_on(at, part, text, bytes) {
+            Err(fault) => Err(fault),
+            Ok(Read::Open(part, text)) => {
+                self.mode = Mode::Str(part, text);
+                Ok(bytes.len())
+            }
+            Ok(Read::Closed(text, n)) => {
+                match self.value_read(Json::Str(text.into_text()), at + (n + 1), &bytes[n + 1..]) {
+                    Ok(k) => Ok(n + 1 + k),
+                    Err(fault) => Err(fault),
+                }
+            }
+        }
+    }
+
+    /// In anything but at a value, a first item or a first name.
+    fn take_held(&mut self, at: usize, bytes: &[u8]) -> Result<usize, JsonFault>
+        requires place { at + length bytes.now < 2 ^ 64 }
+        requires holds { HoldsText (state_of self.old).mode }
+        ensures { Takes bytes.now at (state_of self.old) result (state_of self.new) }
+    {
+        match bytes {
+            [] => Ok(0),
+            [byte, tail @ ..] => match mem::replace(&mut self.mode, Mode::Value) {
+                Mode::Str(part, text) => self.take_str(at, part, text, bytes),
+                Mode::After(value) => self.value_read(value, at, bytes),
+                mode => {
+                    self.mode = mode;
+                    self.take_byte(at, *byte, tail)
+                }
+            },
         }
     }
 
@@ -282,7 +316,12 @@ impl Reader {
     {
         match bytes {
             [] => Ok(0),
-            [byte, tail @ ..] => self.take_from(at, *byte, tail),
+            [byte, tail @ ..] => match &self.mode {
+                Mode::Value => self.take_value(at, *byte, tail),
+                Mode::First => self.take_first(at, *byte, tail),
+                Mode::FirstName => self.take_first_name(at, *byte, tail),
+                _ => self.take_held(at, bytes),
+            },
         }
     }
 }
