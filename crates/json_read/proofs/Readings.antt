@@ -14,48 +14,24 @@ use Rattle.json_read.specs.declared.string.Part.TheVariants as p
 use Rattle.json_read.specs.declared.string.Progress.TheVariants as s
 use Rattle.json_value.specs.Grammar.{strict}
 use Rattle.json_read.specs.Left.{TextLeft}
-use Rattle.json_read.specs.Scan.{Scanned, AllPlain, scan}
+use Rattle.json_read.specs.Scan.{Scanned, Unescaped, scan}
 use Rattle.exact_read.specs.Steps.{run, on_step}
 use Rattle.json_read.specs.Machine.{State, Frames, step, str_by, placed, whole}
 use Rattle.json_read.specs.Tokens.{Takes, Reading, Open, Closed, Failed, reading_by, reading, ReadsOn, PlainOn}
 use Rattle.json_read.specs.declared.reader.text.Read.{Read}
 use Rattle.json_read.specs.declared.reader.text.Read.TheVariants as r
-use Rattle.json_read.proofs.PlainRuns.{plain_scans}
+use Rattle.json_read.proofs.PlainRuns.{str_after, str_run, one_scan, unescaped_reading, rest_is}
 use Rattle.json_read.proofs.Utf8.{more_holds, done_holds}
-use Rattle.json_read.proofs.Taken.{then_ok, then_err, rest_is}
+use Rattle.json_read.proofs.Taken.{then_ok, then_err}
 
-str_after : Frames → Reading → Result State (Refusal × ℕ)
-str_after fs (Open part text) = Ok (record { mode = m.Str part text; frames = fs })
-str_after fs (Closed text rest at) = run (step strict) rest (at + 1) (record { mode = m.After (j.Str text); frames = fs })
-str_after fs (Failed why at) = Err (why, at)
-
-str_run : (bs : List ℕ) (at : ℕ) (part : Part) (text : List ℕ) (fs : Frames) → run (step strict) bs at (record { mode = m.Str part text; frames = fs }) ≡ str_after fs (reading bs at part text)
-unfolding run step reading str_after
-str_run [] at part text fs = refl
-str_run (b ∷ bs) at part text fs = by_scan (λ next more. str_run bs (at + 1) next more fs) (scan false at part text b)
-  where
-    by_scan : ((next : Part) (more : List ℕ) → run (step strict) bs (at + 1) (record { mode = m.Str next more; frames = fs }) ≡ str_after fs (reading bs (at + 1) next more)) → (o : Scanned) → on_step (step strict) at (str_by fs o) (run (step strict) bs (at + 1)) ≡ str_after fs (reading_by o at bs (reading bs (at + 1)))
-    by_scan tail (Ok (s.More next more)) = tail next more
-    by_scan tail (Ok (s.Done made)) = refl
-    by_scan tail (Err why) = refl
-
-plain_reading : (ts w : List ℕ) (at : ℕ) (text : List ℕ) → AllPlain ts → reading (ts ++ w) at p.Plain text ≡ reading w (at + length ts) p.Plain (text ++ ts)
-unfolding reading
-plain_reading [] w at text all = ap (λ (q : ℕ). reading w q p.Plain text) (let x : at ≡ at + 0 = omega arith in x) ∙ ap (λ (k : List ℕ). reading w (at + 0) p.Plain k) (sym (append-nil text))
-plain_reading (t ∷ ts) w at text all =
-    ap (λ (o : Scanned). reading_by o at (ts ++ w) (reading (ts ++ w) (at + 1))) (plain_scans at text t all.0)
-    ∙ (plain_reading ts w (at + 1) (text ++ (t ∷ [])) all.1
-    ∙ (ap (λ (q : ℕ). reading w q p.Plain ((text ++ (t ∷ [])) ++ ts)) (let x : at + 1 + length ts ≡ at + suc (length ts) = omega arith in x) ∙ ap (λ (k : List ℕ). reading w (at + suc (length ts)) p.Plain k) (append_assoc text (t ∷ []) ts)))
-
-pub plain_on : (part : Part) (text made bytes : List ℕ) (n : ℕ) → part ≡ p.Plain → n ≤ length bytes → AllPlain (take n bytes) → made ≡ text ++ take n bytes → PlainOn part text bytes n made
+pub plain_on : (part : Part) (text made bytes : List ℕ) (n : ℕ) → part ≡ p.Plain → n ≤ length bytes → Unescaped (take n bytes) → made ≡ text ++ take n bytes → PlainOn part text bytes n made
 plain_on part text made bytes n is le all same = (le, λ w at. at_plain w at)
   where
     at_plain : (w : List ℕ) (at : ℕ) → reading (take n bytes ++ w) at part text ≡ reading w (at + n) part made
     at_plain w at =
         ap (λ (k : Part). reading (take n bytes ++ w) at k text) is
-        ∙ (plain_reading (take n bytes) w at text all
-        ∙ (ap (λ (q : ℕ). reading w (at + q) p.Plain (text ++ take n bytes)) (length-take-le n bytes le)
-        ∙ (ap (λ (k : Part). reading w (at + n) k (text ++ take n bytes)) (sym is) ∙ ap (λ (k : List ℕ). reading w (at + n) part k) (sym same))))
+        ∙ (unescaped_reading (take n bytes) w at (at + n) text all (ap (λ (q : ℕ). at + q) (sym (length-take-le n bytes le)))
+        ∙ (ap (λ (k : Part). reading w (at + n) k (text ++ take n bytes)) (sym is) ∙ ap (λ (k : List ℕ). reading w (at + n) part k) (sym same)))
 
 pub nothing_on : (part : Part) (text bytes : List ℕ) → PlainOn part text bytes 0 text
 nothing_on part text bytes = (omega arith, λ w at. ap (λ (q : ℕ). reading w q part text) (let x : at ≡ at + 0 = omega arith in x))
@@ -67,10 +43,6 @@ So_far bytes at i first given part text = (w : List ℕ) → reading (take i byt
 pub begun : (bytes : List ℕ) (at : ℕ) (part : Part) (text : List ℕ) → So_far bytes at 0 part text part text
 unfolding So_far
 begun bytes at part text = λ w. ap (λ (q : ℕ). reading w q part text) (let x : at ≡ at + 0 = omega arith in x)
-
-one_scan : (b at : ℕ) (w : List ℕ) (part : Part) (text : List ℕ) (o : Scanned) → scan false at part text b ≡ o → reading (b ∷ w) at part text ≡ reading_by o at w (reading w (at + 1))
-unfolding reading
-one_scan b at w part text o is = ap (λ (k : Scanned). reading_by k at w (reading w (at + 1))) is
 
 here : (bytes : List ℕ) (i : ℕ) → i < length bytes → take (i + 1) bytes ≡ take i bytes ++ (get_or bytes i 0 ∷ [])
 here bytes i lt = rw add-one (take-suc bytes i 0 lt)

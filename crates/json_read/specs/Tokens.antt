@@ -15,9 +15,14 @@ use Rattle.exact_read.specs.Steps.{run}
 use Rattle.json_read.specs.Machine.{State, step, whole, placed}
 
 -- from the old state, at this place, so many of the bytes lead to the new one; or reading ends with this fault
+abbrev pub Reaches : List ℕ → ℕ → State → Result ℕ JsonFault → State → Type 0
+Reaches bytes at old (Ok n) new = (n ≤ length bytes) × (run (step strict) (take n bytes) at old ≡ Ok new)
+Reaches bytes at old (Err fault) new = fault ≢ faults.Memory → whole (run (step strict) bytes at old) ≡ Err fault
+
+-- and so at least one byte, where there is one
 abbrev pub Takes : List ℕ → ℕ → State → Result ℕ JsonFault → State → Type 0
 Takes bytes at old (Ok n) new = (n ≤ length bytes) × (0 < length bytes → 0 < n) × (run (step strict) (take n bytes) at old ≡ Ok new)
-Takes bytes at old (Err fault) new = fault ≢ faults.Memory → whole (run (step strict) bytes at old) ≡ Err fault
+Takes bytes at old (Err fault) new = Reaches bytes at old (Err fault) new
 
 -- each byte goes on with the number
 abbrev pub Follows : Digit → List ℕ → Digit → Type 0

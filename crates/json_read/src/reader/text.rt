@@ -1,7 +1,6 @@
 //! The rest of a string at once.
 
 ghost use Rattle.std.specs.Prelude.{◌≡◌, ◌≤◌, ◌<◌, ◌+◌, ◌^◌, ◌++◌, length, take, IfOk};
-ghost use Rattle.json_read.specs.Scan.{AllPlain};
 ghost use Rattle.json_read.specs.Tokens.{ReadsOn, PlainOn};
 
 use super::placed;
