@@ -12,6 +12,8 @@ use Rattle.json_value.specs.declared.fault.JsonFault.{JsonFault}
 use Rattle.json_value.specs.declared.fault.JsonFault.TheVariants as faults
 use Rattle.json_read.specs.declared.reader.Mode.{Mode}
 use Rattle.json_read.specs.declared.reader.Mode.TheVariants as m
+use Rattle.json_read.specs.declared.reader.Word.{Word}
+use Rattle.json_read.specs.declared.reader.Word.TheVariants as w
 use Rattle.json_read.specs.declared.reader.Frame.{Frame}
 use Rattle.json_read.specs.declared.reader.Frame.TheVariants as f
 use Rattle.json_read.specs.declared.number.Digit.{Digit}
@@ -21,7 +23,7 @@ use Rattle.json_value.specs.Grammar.{strict, has, is_blank, IsSpace}
 use Rattle.json_read.specs.Numbers.{number_start, number_next, may_end}
 use Rattle.json_read.specs.Scan.{scan, plain_scan}
 use Rattle.exact_read.specs.Steps.{run, on_step}
-use Rattle.json_read.specs.Machine.{State, Frames, Pairs, Outcome, to, step, placed, whole, begin, value_step, first_step, after_by, after_step, unless_blank, number_go, number_step, first_name_step, next_name_step, named, colon_step}
+use Rattle.json_read.specs.Machine.{State, Frames, Pairs, Outcome, to, step, placed, whole, begin, value_step, first_step, after_by, after_step, unless_blank, number_go, number_step, word_step, letters, meant, first_name_step, next_name_step, named, colon_step}
 use Rattle.json_read.specs.Tokens.{Takes, Reaches, Follows, Stops}
 use Rattle.json_read.specs.Left.{HoldsText, TextLeft}
 use Rattle.json_value.specs.Strings.{Chars, end}
@@ -406,6 +408,39 @@ pub number_utf8 : (n b : ℕ) (bytes text : List ℕ) (part last : Digit) → nu
 number_utf8 n b bytes text part last starts follows same may =
     subst (λ (t : List ℕ). IsUtf8 t) (sym same)
     (number_ends last (b ∷ take n bytes) (run_holds (b ∷ take n bytes) 0 (record { mode = m.Value; frames = [] }) (record { mode = m.Number last (b ∷ take n bytes); frames = [] }) tt (number_taken [] 0 b (take n bytes) part last starts follows)) may)
+
+-- a whole word, and what follows it
+word_read : (word : Word) (fs : Frames) (at : ℕ) → run (step strict) (letters word) at (record { mode = m.Value; frames = fs }) ≡ Ok (record { mode = m.After (meant word); frames = fs })
+unfolding run step value_step begin word_step
+word_read w.Null fs at = refl
+word_read w.True fs at = refl
+word_read w.False fs at = refl
+
+word_cut : (word : Word) (bytes : List ℕ) → (take (length (letters word)) (letters word ++ bytes) ≡ letters word) × (drop (length (letters word)) (letters word ++ bytes) ≡ bytes) × (0 < length (letters word)) × (length (letters word) ≤ length (letters word ++ bytes))
+word_cut w.Null bytes = (refl, refl, omega arith, omega arith)
+word_cut w.True bytes = (refl, refl, omega arith, omega arith)
+word_cut w.False bytes = (refl, refl, omega arith, omega arith)
+
+word_at : (word : Word) (mode : Mode) (fs : Frames) (at n : ℕ) (bytes : List ℕ) → mode ≡ m.Value → n ≡ length (letters word)
+    → run (step strict) (take n (letters word ++ bytes)) at (record { mode = mode; frames = fs }) ≡ Ok (record { mode = m.After (meant word); frames = fs })
+word_at word mode fs at n bytes is same =
+    ap (λ (q : ℕ). run (step strict) (take q (letters word ++ bytes)) at (record { mode = mode; frames = fs })) same
+    ∙ (ap (λ (k : List ℕ). run (step strict) k at (record { mode = mode; frames = fs })) (word_cut word bytes).0
+    ∙ (ap (λ (q : Mode). run (step strict) (letters word) at (record { mode = q; frames = fs })) is ∙ word_read word fs at))
+
+pub word_then_ok : (word : Word) (mode : Mode) (fs : Frames) (at n k : ℕ) (bytes : List ℕ) (v : Json) (z : State) → mode ≡ m.Value → n ≡ length (letters word) → v ≡ meant word
+    → Takes bytes (at + n) (record { mode = m.After v; frames = fs }) (Ok k) z → Takes (letters word ++ bytes) at (record { mode = mode; frames = fs }) (Ok (n + k)) z
+word_then_ok word mode fs at n k bytes v z is same meaning next =
+    let cut = word_cut word bytes in
+    then_ok (letters word ++ bytes) bytes n k at _ (record { mode = m.After (meant word); frames = fs }) z (ap (λ (q : ℕ). drop q (letters word ++ bytes)) same ∙ cut.1) (omega (arith, cut.3, same)) (omega (arith, cut.2, same))
+    (word_at word mode fs at n bytes is same) (subst (λ (x : Json). Takes bytes (at + n) (record { mode = m.After x; frames = fs }) (Ok k) z) meaning next)
+
+pub word_then_err : (word : Word) (mode : Mode) (fs : Frames) (at n : ℕ) (bytes : List ℕ) (v : Json) (z z' : State) (fault : JsonFault) → mode ≡ m.Value → n ≡ length (letters word) → v ≡ meant word
+    → Takes bytes (at + n) (record { mode = m.After v; frames = fs }) (Err fault) z' → Takes (letters word ++ bytes) at (record { mode = mode; frames = fs }) (Err fault) z
+word_then_err word mode fs at n bytes v z z' fault is same meaning next =
+    let cut = word_cut word bytes in
+    then_err (letters word ++ bytes) bytes n at _ (record { mode = m.After (meant word); frames = fs }) z z' fault (ap (λ (q : ℕ). drop q (letters word ++ bytes)) same ∙ cut.1) (omega (arith, cut.3, same))
+    (word_at word mode fs at n bytes is same) (subst (λ (x : Json). Takes bytes (at + n) (record { mode = m.After x; frames = fs }) (Err fault) z') meaning next)
 
 -- the first item of a list begins as a value does
 first_begins : (fs : Frames) (at b : ℕ) → is_blank b ≡ false → (b == 93) ≡ false → step strict at (record { mode = m.First; frames = fs }) b ≡ step strict at (record { mode = m.Value; frames = f.List [] ∷ fs }) b

@@ -7,11 +7,12 @@ ghost use Rattle.json_read.specs.View.{state_of, frames_of};
 ghost use Rattle.json_read.specs.Tokens.{Takes, Reaches, Follows, Stops};
 ghost use Rattle.json_read.specs.Scan.{Unescaped};
 ghost use Rattle.json_read.specs.Numbers.{number_start};
+ghost use Rattle.json_read.specs.Machine.{letters};
 ghost use Rattle.json_read.specs.declared.reader.Frame.TheVariants.{Member};
 ghost use Rattle.json_read.specs.declared.reader.Mode.TheVariants as modes;
 
 use super::text::{Read, read_on};
-use super::{Frame, Mode, Reader, is_blank, placed};
+use super::{Frame, Mode, Reader, Word, is_blank, letters, meant, placed};
 use crate::buffer::Buffer;
 use crate::number::{Digit, may_end, number_next, number_start};
 use crate::open_members::Members;
@@ -54,7 +55,8 @@ fn number_run(start: Digit, bytes: &[u8]) -> (usize, Digit)
 fn number_text(alloc: Global, byte: u8, run: &[u8]) -> Result<Buffer, AllocError>
     ensures { IfOk result (λ text. text ≡ byte ∷ run.now) }
 {
-    let mut text = Buffer::of(alloc, &[byte])?;
+    let mut text = Buffer::with_room(alloc, run.len().saturating_add(1))?;
+    text.push(byte)?;
     text.append(run)?;
     Ok(text)
 }
@@ -259,6 +261,33 @@ impl Reader {
         }
     }
 
+    /// At a value, after this word.
+    fn word_read(&mut self, word: Word, at: usize, after: &[u8]) -> Result<usize, JsonFault>
+        requires place { at + length (letters word) + length after.now < 2 ^ 64 }
+        requires mode { self.old.mode ≡ modes.Value }
+        ensures { Takes (letters word ++ after.now) at (state_of self.old) result (state_of self.new) }
+    {
+        let n = letters(word).len();
+        match self.value_read(meant(word), at + n, after) {
+            Ok(k) => Ok(n + k),
+            Err(fault) => Err(fault),
+        }
+    }
+
+    /// At a value that is neither a string nor a number.
+    fn take_word(&mut self, at: usize, byte: u8, tail: &[u8]) -> Result<usize, JsonFault>
+        requires place { at + length tail.now + 1 < 2 ^ 64 }
+        requires mode { self.old.mode ≡ modes.Value }
+        ensures { Takes (byte ∷ tail.now) at (state_of self.old) result (state_of self.new) }
+    {
+        match (byte, tail) {
+            (b'n', [b'u', b'l', b'l', after @ ..]) => self.word_read(Word::Null, at, after),
+            (b't', [b'r', b'u', b'e', after @ ..]) => self.word_read(Word::True, at, after),
+            (b'f', [b'a', b'l', b's', b'e', after @ ..]) => self.word_read(Word::False, at, after),
+            _ => self.take_byte(at, byte, tail),
+        }
+    }
+
     /// At a value.
     fn take_value(&mut self, at: usize, byte: u8, tail: &[u8]) -> Result<usize, JsonFault>
         requires place { at + length tail.now + 1 < 2 ^ 64 }
@@ -273,7 +302,7 @@ impl Reader {
         }
         match number_start(byte) {
             Some(start) => self.take_number(at, byte, start, tail),
-            None => self.take_byte(at, byte, tail),
+            None => self.take_word(at, byte, tail),
         }
     }
 
