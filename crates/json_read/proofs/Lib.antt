@@ -14,6 +14,7 @@ pub mod Names
 pub mod PlainRuns
 pub mod Held
 pub mod Taken
+pub mod Readings
 pub mod Bytes
 pub mod Viable
 pub mod Inside

@@ -1,22 +1,65 @@
--- A run of plain characters is taken at once.
-use Rattle.std.proofs.Common.{◌≡◌, ℕ, ◌+◌, ◌-◌, ◌<◌, ◌≤◌, true, false, List, [], ◌∷◌, ◌++◌, length, take, drop, get_or, Result, Ok, sym, ap, subst, ◌∙◌, arith, append_assoc, add-one}
-use Rattle.std.specs.Prelude.{◌==◌}
-use Rattle.std.proofs.lemmas.List.{take_at, append-nil, drop-drop, take-append-drop, length-take-le, length-drop}
-use Rattle.std.proofs.Math.Seq.{take-suc}
-use Rattle.std.proofs.lemmas.Bool.{and_parts, not-true}
+-- Characters that stand for themselves are taken at once.
+use Rattle.std.proofs.Common.{◌≡◌, ℕ, ◌+◌, ◌-◌, ◌<◌, ◌≤◌, true, false, List, [], ◌∷◌, ◌++◌, length, take, drop, get_or, Option, Some, None, Result, Ok, Err, refl, sym, ap, subst, ◌∙◌, arith, append_assoc, length-append}
+use Rattle.std.specs.Prelude.{◌==◌, nat_le}
+use Rattle.std.proofs.lemmas.List.{append-nil, length-drop}
+use Rattle.std.proofs.Math.Seq.{take-add, take-length}
+use Rattle.std.proofs.lemmas.Bool.{and_parts, not-true, and_left, and_right, ne_eqb, lt-leb}
+use Rattle.json_value.specs.declared.tree.Json.TheVariants as j
 use Rattle.json_read.specs.declared.refusal.Refusal.{Refusal}
-use Rattle.json_read.specs.declared.reader.Mode.{Mode}
 use Rattle.json_read.specs.declared.reader.Mode.TheVariants as m
 use Rattle.json_read.specs.declared.string.Part.{Part}
 use Rattle.json_read.specs.declared.string.Part.TheVariants as p
-use Rattle.json_value.specs.Strings.{within, is_plain}
+use Rattle.json_read.specs.declared.string.Progress.TheVariants as s
+use Rattle.json_read.specs.declared.string.Tail.{Tail}
+use Rattle.json_read.specs.declared.string.Tail.TheVariants as tails
+use Rattle.json_value.specs.Strings.{within, is_plain, is_tail, IsWide}
 use Rattle.json_value.specs.Grammar.{strict}
-use Rattle.json_read.specs.Scan.{scan, with, AllPlain}
+use Rattle.json_read.specs.Left.{OneByte, Ends, Tails}
+use Rattle.json_read.specs.Scan.{Scanned, scan, with, lead, tail_low, tail_high, wide_next, wide_scan, Unescaped, none, one, wide}
 use Rattle.exact_read.specs.Steps.{run, on_step}
-use Rattle.json_read.specs.Machine.{State, Frames, Pairs, step, str_by, naming_by}
-use Rattle.json_read.proofs.TextsGo.{plain_steps}
-use Rattle.exact_read.proofs.Machines.{run_both}
+use Rattle.json_read.specs.Machine.{State, Frames, Pairs, step, str_by, named, naming_by}
+use Rattle.json_read.specs.Tokens.{Reading, Open, Closed, Failed, reading_by, reading}
+use Rattle.json_read.proofs.Wides.{WideTails, wide_tails, tails_wide, one_tail, two_tails, three_tails}
+use Rattle.json_read.proofs.TextsGo.{plain_steps, wide_steps, lead_big}
 
+-- reading on in a string or a name goes as the machine runs
+unfoldable pub str_after : Frames → Reading → Result State (Refusal × ℕ)
+str_after fs (Open part text) = Ok (record { mode = m.Str part text; frames = fs })
+str_after fs (Closed text rest at) = run (step strict) rest (at + 1) (record { mode = m.After (j.Str text); frames = fs })
+str_after fs (Failed why at) = Err (why, at)
+
+pub str_run : (bs : List ℕ) (at : ℕ) (part : Part) (text : List ℕ) (fs : Frames) → run (step strict) bs at (record { mode = m.Str part text; frames = fs }) ≡ str_after fs (reading bs at part text)
+unfolding run step reading str_after
+str_run [] at part text fs = refl
+str_run (b ∷ bs) at part text fs = by_scan (λ next more. str_run bs (at + 1) next more fs) (scan false at part text b)
+  where
+    by_scan : ((next : Part) (more : List ℕ) → run (step strict) bs (at + 1) (record { mode = m.Str next more; frames = fs }) ≡ str_after fs (reading bs (at + 1) next more)) → (o : Scanned) → on_step (step strict) at (str_by fs o) (run (step strict) bs (at + 1)) ≡ str_after fs (reading_by o at bs (reading bs (at + 1)))
+    by_scan tail (Ok (s.More next more)) = tail next more
+    by_scan tail (Ok (s.Done made)) = refl
+    by_scan tail (Err why) = refl
+
+unfoldable pub name_after : Frames → Pairs → ℕ → Reading → Result State (Refusal × ℕ)
+name_after fs ms place (Open part text) = Ok (record { mode = m.Naming ms place part text; frames = fs })
+name_after fs ms place (Closed name rest at) = on_step (step strict) at (named true fs ms place name) (run (step strict) rest (at + 1))
+name_after fs ms place (Failed why at) = Err (why, at)
+
+pub name_run : (bs : List ℕ) (at : ℕ) (ms : Pairs) (place : ℕ) (part : Part) (text : List ℕ) (fs : Frames)
+    → run (step strict) bs at (record { mode = m.Naming ms place part text; frames = fs }) ≡ name_after fs ms place (reading bs at part text)
+unfolding run step reading name_after
+name_run [] at ms place part text fs = refl
+name_run (b ∷ bs) at ms place part text fs = by_scan (λ next more. name_run bs (at + 1) ms place next more fs) (scan false at part text b)
+  where
+    by_scan : ((next : Part) (more : List ℕ) → run (step strict) bs (at + 1) (record { mode = m.Naming ms place next more; frames = fs }) ≡ name_after fs ms place (reading bs (at + 1) next more)) → (o : Scanned)
+        → on_step (step strict) at (naming_by true fs ms place o) (run (step strict) bs (at + 1)) ≡ name_after fs ms place (reading_by o at bs (reading bs (at + 1)))
+    by_scan tail (Ok (s.More next more)) = tail next more
+    by_scan tail (Ok (s.Done made)) = refl
+    by_scan tail (Err why) = refl
+
+pub one_scan : (b at : ℕ) (w : List ℕ) (part : Part) (text : List ℕ) (o : Scanned) → scan false at part text b ≡ o → reading (b ∷ w) at part text ≡ reading_by o at w (reading w (at + 1))
+unfolding reading
+one_scan b at w part text o is = ap (λ (k : Scanned). reading_by k at w (reading w (at + 1))) is
+
+-- a character of one byte
 plain_scans : (at : ℕ) (text : List ℕ) (b : ℕ) → is_plain b ≡ true → scan false at p.Plain text b ≡ with text (b ∷ [])
 unfolding scan
 plain_scans at text b is =
@@ -24,83 +67,121 @@ plain_scans at text b is =
     let qs = and_parts _ _ ps.1 in
     plain_steps at text b (not-true (b == 34) qs.0) (not-true (b == 92) qs.1) is
 
-pub plain_runs : (ts : List ℕ) (at : ℕ) (text : List ℕ) (fs : Frames) → AllPlain ts
+-- a character of several bytes
+lead_scans : (at : ℕ) (text : List ℕ) (b : ℕ) (tail : Tail) → lead b ≡ Some tail → scan false at p.Plain text b ≡ Ok (s.More (p.Wide at tail) (text ++ (b ∷ [])))
+unfolding scan
+lead_scans at text b tail is =
+    let big : 194 ≤ b = lead_big b tail is in
+    wide_steps at text b tail (ne_eqb b 34 (λ h. omega arith)) (ne_eqb b 92 (λ h. omega arith)) (and_left (within 32 127 b) _ (and_right (nat_le 32 b) (nat_le b 127) (lt-leb b 127 (omega arith)))) is
+
+wide_scans : (at place : ℕ) (tail : Tail) (text : List ℕ) (b : ℕ) → within (tail_low tail) (tail_high tail) b ≡ true → scan false at (p.Wide place tail) text b ≡ Ok (s.More (wide_next place tail) (text ++ (b ∷ [])))
+unfolding scan wide_scan
+wide_scans at place tail text b is = rw is refl
+
+byte_read : (tail : Tail) (K : List ℕ → List ℕ → Type 0) (l u w : List ℕ) (at q place : ℕ) (text : List ℕ) → q ≡ at + length u → (ts : OneByte (tail_low tail) (tail_high tail) K u w)
+    → ((more : List ℕ) → q ≡ at + 1 + length ts.others → reading ts.after (at + 1) (wide_next place tail) more ≡ reading l q p.Plain (more ++ ts.others))
+    → reading w at (p.Wide place tail) text ≡ reading l q p.Plain (text ++ u)
+byte_read tail K l u w at q place text is ts onward =
+    ap (λ (k : List ℕ). reading k at (p.Wide place tail) text) ts.parts
+    ∙ (one_scan ts.byte at ts.after (p.Wide place tail) text (Ok (s.More (wide_next place tail) (text ++ (ts.byte ∷ [])))) (wide_scans at place tail text ts.byte ts.is)
+    ∙ (onward (text ++ (ts.byte ∷ [])) (omega (arith, is, ap length ts.made))
+    ∙ ap (λ (k : List ℕ). reading l q p.Plain k) (append_assoc text (ts.byte ∷ []) ts.others ∙ ap (λ (k : List ℕ). text ++ k) (sym ts.made))))
+
+ends_read : (l others after : List ℕ) (at q : ℕ) (text : List ℕ) → q ≡ at + length others → Ends l others after → reading after at p.Plain text ≡ reading l q p.Plain (text ++ others)
+ends_read l others after at q text is (nothing, rest) =
+    ap (λ (k : List ℕ). reading k at p.Plain text) rest
+    ∙ (ap (λ (k : ℕ). reading l k p.Plain text) (let x : at ≡ q = omega (arith, is, ap length nothing) in x)
+    ∙ ap (λ (k : List ℕ). reading l q p.Plain k) (sym (append-nil text) ∙ ap (λ (k : List ℕ). text ++ k) (sym nothing)))
+
+one_read : (low high : ℕ) (l u w : List ℕ) (at q place : ℕ) (text : List ℕ) → q ≡ at + length u → Tails (tails.One low high) l u w → reading w at (p.Wide place (tails.One low high)) text ≡ reading l q p.Plain (text ++ u)
+one_read low high l u w at q place text is ts =
+    byte_read (tails.One low high) (Ends l) l u w at q place text is ts (λ more here. ends_read l ts.others ts.after (at + 1) q more here ts.onward)
+
+two_read : (low high : ℕ) (l u w : List ℕ) (at q place : ℕ) (text : List ℕ) → q ≡ at + length u → Tails (tails.Two low high) l u w → reading w at (p.Wide place (tails.Two low high)) text ≡ reading l q p.Plain (text ++ u)
+two_read low high l u w at q place text is ts =
+    byte_read (tails.Two low high) (OneByte 128 191 (Ends l)) l u w at q place text is ts (λ more here. one_read 128 191 l ts.others ts.after (at + 1) q place more here ts.onward)
+
+three_read : (low high : ℕ) (l u w : List ℕ) (at q place : ℕ) (text : List ℕ) → q ≡ at + length u → Tails (tails.Three low high) l u w → reading w at (p.Wide place (tails.Three low high)) text ≡ reading l q p.Plain (text ++ u)
+three_read low high l u w at q place text is ts =
+    byte_read (tails.Three low high) (OneByte 128 191 (OneByte 128 191 (Ends l))) l u w at q place text is ts (λ more here. two_read 128 191 l ts.others ts.after (at + 1) q place more here ts.onward)
+
+tails_read : (tail : Tail) (l u w : List ℕ) (at q place : ℕ) (text : List ℕ) → q ≡ at + length u → Tails tail l u w → reading w at (p.Wide place tail) text ≡ reading l q p.Plain (text ++ u)
+tails_read (tails.One low high) l u w at q place text is ts = one_read low high l u w at q place text is ts
+tails_read (tails.Two low high) l u w at q place text is ts = two_read low high l u w at q place text is ts
+tails_read (tails.Three low high) l u w at q place text is ts = three_read low high l u w at q place text is ts
+
+wide_read : (c w : List ℕ) (at : ℕ) (text : List ℕ) → IsWide c → reading (c ++ w) at p.Plain text ≡ reading w (at + length c) p.Plain (text ++ c)
+wide_read c w at text is =
+    let k : WideTails c = wide_tails c is in
+    ap (λ (q : List ℕ). reading (q ++ w) at p.Plain text) k.parts
+    ∙ (one_scan k.first at (k.others ++ w) p.Plain text (Ok (s.More (p.Wide at k.tail) (text ++ (k.first ∷ [])))) (lead_scans at text k.first k.tail k.is)
+    ∙ (tails_read k.tail w k.others (k.others ++ w) (at + 1) (at + length c) at (text ++ (k.first ∷ [])) (omega (arith, ap length k.parts)) (k.tails w)
+    ∙ ap (λ (q : List ℕ). reading w (at + length c) p.Plain q) (append_assoc text (k.first ∷ []) k.others ∙ ap (λ (q : List ℕ). text ++ q) (sym k.parts))))
+
+pub unescaped_reading : (ts w : List ℕ) (at q : ℕ) (text : List ℕ) → Unescaped ts → q ≡ at + length ts → reading (ts ++ w) at p.Plain text ≡ reading w q p.Plain (text ++ ts)
+unescaped_reading _ w at q text none is = ap (λ (k : ℕ). reading w k p.Plain text) (let x : at ≡ q = omega (arith, is) in x) ∙ ap (λ (k : List ℕ). reading w q p.Plain k) (sym (append-nil text))
+unescaped_reading _ w at q text (one c ts is_one more) is =
+    one_scan c at (ts ++ w) p.Plain text (with text (c ∷ [])) (plain_scans at text c is_one)
+    ∙ (unescaped_reading ts w (at + 1) q (text ++ (c ∷ [])) more (omega (arith, is)) ∙ ap (λ (k : List ℕ). reading w q p.Plain k) (append_assoc text (c ∷ []) ts))
+unescaped_reading _ w at q text (wide c ts is_wide more) is =
+    ap (λ (k : List ℕ). reading k at p.Plain text) (append_assoc c ts w)
+    ∙ (wide_read c (ts ++ w) at text is_wide
+    ∙ (unescaped_reading ts w (at + length c) q (text ++ c) more (omega (arith, is, length-append c ts)) ∙ ap (λ (k : List ℕ). reading w q p.Plain k) (append_assoc text c ts)))
+
+unescaped_open : (ts : List ℕ) (at : ℕ) (text : List ℕ) → Unescaped ts → reading ts at p.Plain text ≡ Open p.Plain (text ++ ts)
+unfolding reading
+unescaped_open ts at text all = ap (λ (k : List ℕ). reading k at p.Plain text) (sym (append-nil ts)) ∙ unescaped_reading ts [] at (at + length ts) text all refl
+
+pub plain_runs : (ts : List ℕ) (at : ℕ) (text : List ℕ) (fs : Frames) → Unescaped ts
     → run (step strict) ts at (record { mode = m.Str p.Plain text; frames = fs }) ≡ Ok (record { mode = m.Str p.Plain (text ++ ts); frames = fs })
-unfolding run step
-plain_runs [] at text fs all = ap (λ (k : List ℕ). Ok (record { mode = m.Str p.Plain k; frames = fs })) (sym (append-nil text))
-plain_runs (t ∷ ts) at text fs all =
-    ap (λ o. on_step (step strict) at (str_by fs o) (run (step strict) ts (at + 1))) (plain_scans at text t all.0)
-    ∙ (plain_runs ts (at + 1) (text ++ (t ∷ [])) fs all.1 ∙ ap (λ (k : List ℕ). Ok (record { mode = m.Str p.Plain k; frames = fs })) (append_assoc text (t ∷ []) ts))
+unfolding str_after
+plain_runs ts at text fs all = str_run ts at p.Plain text fs ∙ ap (str_after fs) (unescaped_open ts at text all)
 
-pub naming_runs : (ts : List ℕ) (at : ℕ) (ms : Pairs) (place : ℕ) (text : List ℕ) (fs : Frames) → AllPlain ts
+pub naming_runs : (ts : List ℕ) (at : ℕ) (ms : Pairs) (place : ℕ) (text : List ℕ) (fs : Frames) → Unescaped ts
     → run (step strict) ts at (record { mode = m.Naming ms place p.Plain text; frames = fs }) ≡ Ok (record { mode = m.Naming ms place p.Plain (text ++ ts); frames = fs })
-unfolding run step
-naming_runs [] at ms place text fs all = ap (λ (k : List ℕ). Ok (record { mode = m.Naming ms place p.Plain k; frames = fs })) (sym (append-nil text))
-naming_runs (t ∷ ts) at ms place text fs all =
-    ap (λ o. on_step (step strict) at (naming_by true fs ms place o) (run (step strict) ts (at + 1))) (plain_scans at text t all.0)
-    ∙ (naming_runs ts (at + 1) ms place (text ++ (t ∷ [])) fs all.1 ∙ ap (λ (k : List ℕ). Ok (record { mode = m.Naming ms place p.Plain k; frames = fs })) (append_assoc text (t ∷ []) ts))
+unfolding name_after
+naming_runs ts at ms place text fs all = name_run ts at ms place p.Plain text fs ∙ ap (name_after fs ms place) (unescaped_open ts at text all)
 
-all_more : (xs : List ℕ) (b : ℕ) → AllPlain xs → is_plain b ≡ true → AllPlain (xs ++ (b ∷ []))
-all_more [] b all is = (is, tt)
-all_more (x ∷ xs) b all is = (all.0, all_more xs b all.1 is)
+-- scanning for such characters
+pub all_unescaped : (xs ys : List ℕ) → Unescaped xs → Unescaped ys → Unescaped (xs ++ ys)
+all_unescaped _ ys none more = more
+all_unescaped _ ys (one c xs is all) more = one c (xs ++ ys) is (all_unescaped xs ys all more)
+all_unescaped _ ys (wide c xs is all) more = subst Unescaped (sym (append_assoc c xs ys)) (wide c (xs ++ ys) is (all_unescaped xs ys all more))
 
-pub plain_more : (xs : List ℕ) (i : ℕ) → i < length xs → AllPlain (take i xs) → is_plain (get_or xs i 0) ≡ true → AllPlain (take (i + 1) xs)
-plain_more xs i lt all is = rw (add-one, take-suc xs i 0) (all_more (take i xs) (get_or xs i 0) all is)
+pub nothing_unescaped : Unescaped []
+nothing_unescaped = none
 
-pub taken_str : (mode : Mode) (text text' plain : List ℕ) (fs : Frames) → mode ≡ m.Str p.Plain text → text' ≡ text ++ plain → AllPlain plain → (at : ℕ)
-    → run (step strict) plain at (record { mode = mode; frames = fs }) ≡ Ok (record { mode = m.Str p.Plain text'; frames = fs })
-taken_str mode text text' plain fs is made all at =
-    ap (λ (k : Mode). run (step strict) plain at (record { mode = k; frames = fs })) is ∙ (plain_runs plain at text fs all ∙ ap (λ (k : List ℕ). Ok (record { mode = m.Str p.Plain k; frames = fs })) (sym made))
+alone : (c : List ℕ) → IsWide c → Unescaped c
+alone c is = subst Unescaped (append-nil c) (wide c [] is none)
 
-pub taken_name : (mode : Mode) (ms : Pairs) (place : ℕ) (text text' plain : List ℕ) (fs : Frames) → mode ≡ m.Naming ms place p.Plain text → text' ≡ text ++ plain → AllPlain plain → (at : ℕ)
-    → run (step strict) plain at (record { mode = mode; frames = fs }) ≡ Ok (record { mode = m.Naming ms place p.Plain text'; frames = fs })
-taken_name mode ms place text text' plain fs is made all at =
-    ap (λ (k : Mode). run (step strict) plain at (record { mode = k; frames = fs })) is ∙ (naming_runs plain at ms place text fs all ∙ ap (λ (k : List ℕ). Ok (record { mode = m.Naming ms place p.Plain k; frames = fs })) (sym made))
+pub one_begun : (ws : List ℕ) → 1 ≤ length ws → is_plain (get_or ws 0 0) ≡ true → Unescaped (take 1 ws)
+one_begun [] le is = absurd (omega arith)
+one_begun (b ∷ bs) le is = one b [] is none
 
-pub untouched : (mode mode' : Mode) (fs : Frames) (rest : List ℕ) → mode ≡ mode' → (at : ℕ) → run (step strict) (take 0 rest) at (record { mode = mode; frames = fs }) ≡ Ok (record { mode = mode'; frames = fs })
-unfolding run
-untouched mode mode' fs rest is at = ap (λ (k : Mode). Ok (record { mode = k; frames = fs })) is
+pub two_begun : (a low high : ℕ) (ws : List ℕ) → 1 ≤ length ws → lead a ≡ Some (tails.One low high) → within low high (get_or ws 0 0) ≡ true → Unescaped (a ∷ take 1 ws)
+two_begun a low high [] le is hb = absurd (omega arith)
+two_begun a low high (b ∷ bs) le is hb = alone (a ∷ (b ∷ [])) (tails_wide a (tails.One low high) (b ∷ []) [] (b ∷ []) is (one_tail low high b [] hb)).0
 
-pub at_place : (bytes : List ℕ) (i next : ℕ) (s : State) (total : Result State (Refusal × ℕ)) → i ≤ next → next ≤ i → run (step strict) (drop next bytes) next s ≡ total → run (step strict) (drop i bytes) i s ≡ total
-at_place bytes i next s total a b so_far = subst (λ (k : ℕ). run (step strict) (drop k bytes) k s ≡ total) (omega arith) so_far
+pub three_begun : (a low high : ℕ) (ws : List ℕ) → 2 ≤ length ws → lead a ≡ Some (tails.Two low high) → within low high (get_or ws 0 0) ≡ true → is_tail (get_or ws 1 0) ≡ true → Unescaped (a ∷ take 2 ws)
+three_begun a low high [] le is hb hc = absurd (omega arith)
+three_begun a low high (b ∷ []) le is hb hc = absurd (omega arith)
+three_begun a low high (b ∷ (c ∷ bs)) le is hb hc = alone (a ∷ (b ∷ (c ∷ []))) (tails_wide a (tails.Two low high) (b ∷ (c ∷ [])) [] (b ∷ (c ∷ [])) is (two_tails low high b c [] hb hc)).0
 
--- after a run that was taken at once
-pub goes_further : (bytes : List ℕ) (i n : ℕ) (x y : State) (total : Result State (Refusal × ℕ)) → i + n ≤ length bytes → ((at : ℕ) → run (step strict) (take n (drop i bytes)) at x ≡ Ok y)
-    → run (step strict) (drop i bytes) i x ≡ total → run (step strict) (drop (i + n) bytes) (i + n) y ≡ total
-goes_further bytes i n x y total le taken so_far =
-    let front : List ℕ = take n (drop i bytes) in
-    let long : length (take n (drop i bytes)) ≡ n = length-take-le n (drop i bytes) (omega (arith, length-drop i bytes)) in
-    let later : drop n (drop i bytes) ≡ drop (i + n) bytes = drop-drop n i bytes in
-    let split : take n (drop i bytes) ++ drop n (drop i bytes) ≡ drop i bytes = take-append-drop n (drop i bytes) in
-    let one : run (step strict) (take n (drop i bytes) ++ drop n (drop i bytes)) i x ≡ run (step strict) (drop n (drop i bytes)) (i + length (take n (drop i bytes))) y = run_both (step strict) (take n (drop i bytes)) (drop n (drop i bytes)) i x y (taken i) in
-    let here : run (step strict) (drop n (drop i bytes)) (i + n) y ≡ run (step strict) (drop i bytes) i x =
-    ap (λ (k : ℕ). run (step strict) (drop n (drop i bytes)) (i + k) y) (sym long) ∙ (sym one ∙ ap (λ (k : List ℕ). run (step strict) k i x) split) in
-    ap (λ (k : List ℕ). run (step strict) k (i + n) y) (sym later) ∙ (here ∙ so_far)
+pub four_begun : (a low high : ℕ) (ws : List ℕ) → 3 ≤ length ws → lead a ≡ Some (tails.Three low high) → within low high (get_or ws 0 0) ≡ true → is_tail (get_or ws 1 0) ≡ true → is_tail (get_or ws 2 0) ≡ true → Unescaped (a ∷ take 3 ws)
+four_begun a low high [] le is hb hc hd = absurd (omega arith)
+four_begun a low high (b ∷ []) le is hb hc hd = absurd (omega arith)
+four_begun a low high (b ∷ (c ∷ [])) le is hb hc hd = absurd (omega arith)
+four_begun a low high (b ∷ (c ∷ (d ∷ bs))) le is hb hc hd =
+    alone (a ∷ (b ∷ (c ∷ (d ∷ [])))) (tails_wide a (tails.Three low high) (b ∷ (c ∷ (d ∷ []))) [] (b ∷ (c ∷ (d ∷ []))) is (three_tails low high b c d [] hb hc hd)).0
 
-pub reaches : (n i next : ℕ) → n ≤ i → i ≤ next → n ≤ next
-reaches n i next a b = omega arith
+-- the slice from a place on
+pub rest_is : (n : ℕ) (bytes : List ℕ) → n ≤ length bytes → take (length bytes - n) (drop n bytes) ≡ drop n bytes
+rest_is n bytes le = ap (λ (q : ℕ). take q (drop n bytes)) (sym (length-drop n bytes)) ∙ take-length (drop n bytes)
 
-pub below : (i n : ℕ) → i < n → i + 1 ≤ n
-below i n a = omega arith
-
-pub goes_all : (bytes : List ℕ) (k n : ℕ) (x y : State) (total : Result State (Refusal × ℕ)) → k ≤ length bytes → n ≤ length (take (length bytes - k) (drop k bytes))
-    → ((at : ℕ) → run (step strict) (take n (take (length bytes - k) (drop k bytes))) at x ≡ Ok y) → run (step strict) (drop k bytes) k x ≡ total
-    → (k ≤ k + n) × (k + n ≤ length bytes) × (run (step strict) (drop (k + n) bytes) (k + n) y ≡ total)
-goes_all bytes k n x y total le within taken so_far =
-    let all : take (length bytes - k) (drop k bytes) ≡ drop k bytes = whole (length bytes - k) (drop k bytes) (length-drop k bytes) in
-    let here : n ≤ length (drop k bytes) = subst (λ (q : List ℕ). n ≤ length q) all within in
-    let far : k + n ≤ length bytes = omega (arith, length-drop k bytes, here) in
-    (omega arith, far, goes_further bytes k n x y total far (subst (λ (q : List ℕ). (at : ℕ) → run (step strict) (take n q) at x ≡ Ok y) all taken) so_far)
-  where
-    whole : (m : ℕ) (xs : List ℕ) → length xs ≡ m → take m xs ≡ xs
-    whole m xs is = ap (λ (q : List ℕ). take m q) (sym (append-nil xs)) ∙ take_at xs [] m is
-
-pub taken_str_at : (mode : Mode) (part : Part) (text text' plain : List ℕ) (fs : Frames) → mode ≡ m.Str part text → part ≡ p.Plain → text' ≡ text ++ plain → AllPlain plain → (at : ℕ)
-    → run (step strict) plain at (record { mode = mode; frames = fs }) ≡ Ok (record { mode = m.Str part text'; frames = fs })
-taken_str_at mode part text text' plain fs is is_plain made all at =
-    taken_str mode text text' plain fs (is ∙ ap (λ (k : Part). m.Str k text) is_plain) made all at ∙ ap (λ (k : Part). Ok (record { mode = m.Str k text'; frames = fs })) (sym is_plain)
-
-pub taken_name_at : (mode : Mode) (ms : Pairs) (place : ℕ) (part : Part) (text text' plain : List ℕ) (fs : Frames) → mode ≡ m.Naming ms place part text → part ≡ p.Plain → text' ≡ text ++ plain → AllPlain plain → (at : ℕ)
-    → run (step strict) plain at (record { mode = mode; frames = fs }) ≡ Ok (record { mode = m.Naming ms place part text'; frames = fs })
-taken_name_at mode ms place part text text' plain fs is is_plain made all at =
-    taken_name mode ms place text text' plain fs (is ∙ ap (λ (k : Part). m.Naming ms place k text) is_plain) made all at ∙ ap (λ (k : Part). Ok (record { mode = m.Naming ms place k text'; frames = fs })) (sym is_plain)
+pub unescaped_more : (bytes : List ℕ) (i n : ℕ) → i ≤ length bytes → Unescaped (take i bytes) → n ≤ length (take (length bytes - i) (drop i bytes)) → Unescaped (take n (take (length bytes - i) (drop i bytes)))
+    → (i + n ≤ length bytes) × Unescaped (take (i + n) bytes)
+unescaped_more bytes i n le before within here =
+    let rest : take (length bytes - i) (drop i bytes) ≡ drop i bytes = rest_is i bytes le in (
+      omega (arith, within, ap length rest, length-drop i bytes),
+      subst Unescaped (sym (take-add i n bytes)) (all_unescaped (take i bytes) (take n (drop i bytes)) before (subst (λ (w : List ℕ). Unescaped (take n w)) rest here)),
+    )

@@ -1,6 +1,6 @@
 -- What is taken at once is what the machine takes byte by byte.
 use Rattle.std.proofs.Common.{◌≡◌, ◌≢◌, ℕ, zero, suc, ◌+◌, ◌-◌, ◌<◌, ◌≤◌, Bool, true, false, cond, List, [], ◌∷◌, ◌++◌, length, take, drop, get_or, add-one, Option, Some, None, Result, Ok, Err, refl, sym, ap, subst, ◌∙◌, arith, append_assoc}
-use Rattle.std.specs.Prelude.{◌==◌, ◌||◌, reverse, IsUtf8}
+use Rattle.std.specs.Prelude.{◌==◌, ◌||◌, reverse, IsUtf8, IfOk}
 use Rattle.std.proofs.lemmas.List.{append-nil, take-append-drop, length-take-le, length-drop, drop_all, drop-drop, reverse-append}
 use Rattle.std.proofs.lemmas.Bool.{ne_eqb}
 use Rattle.std.proofs.Math.Seq.{take-add, take-suc, drop-cons, take-length}
@@ -12,23 +12,25 @@ use Rattle.json_value.specs.declared.fault.JsonFault.{JsonFault}
 use Rattle.json_value.specs.declared.fault.JsonFault.TheVariants as faults
 use Rattle.json_read.specs.declared.reader.Mode.{Mode}
 use Rattle.json_read.specs.declared.reader.Mode.TheVariants as m
+use Rattle.json_read.specs.declared.reader.Word.{Word}
+use Rattle.json_read.specs.declared.reader.Word.TheVariants as w
 use Rattle.json_read.specs.declared.reader.Frame.{Frame}
 use Rattle.json_read.specs.declared.reader.Frame.TheVariants as f
 use Rattle.json_read.specs.declared.number.Digit.{Digit}
 use Rattle.json_read.specs.declared.string.Part.TheVariants as p
-use Rattle.json_read.specs.Scan.{AllPlain}
+use Rattle.json_read.specs.Scan.{Unescaped}
 use Rattle.json_value.specs.Grammar.{strict, has, is_blank, IsSpace}
 use Rattle.json_read.specs.Numbers.{number_start, number_next, may_end}
 use Rattle.json_read.specs.Scan.{scan, plain_scan}
 use Rattle.exact_read.specs.Steps.{run, on_step}
-use Rattle.json_read.specs.Machine.{State, Frames, Pairs, Outcome, to, step, placed, whole, begin, value_step, first_step, after_by, after_step, unless_blank, number_go, number_step, first_name_step, next_name_step, named, colon_step}
-use Rattle.json_read.specs.Tokens.{Takes, Follows, Stops}
+use Rattle.json_read.specs.Machine.{State, Frames, Pairs, Outcome, to, step, placed, whole, begin, value_step, first_step, after_by, after_step, unless_blank, number_go, number_step, word_step, letters, meant, first_name_step, next_name_step, named, colon_step}
+use Rattle.json_read.specs.Tokens.{Takes, Reaches, Follows, Stops}
 use Rattle.json_read.specs.Left.{HoldsText, TextLeft}
 use Rattle.json_value.specs.Strings.{Chars, end}
 use Rattle.json_read.proofs.Held.{run_holds}
 use Rattle.json_read.proofs.Utf8.{plain_holds, number_ends}
-use Rattle.json_read.proofs.PlainRuns.{plain_runs, naming_runs}
-use Rattle.exact_read.proofs.Machines.{run_both}
+use Rattle.json_read.proofs.PlainRuns.{plain_runs, naming_runs, rest_is}
+use Rattle.exact_read.proofs.Machines.{run_both, ok_is}
 use Rattle.json_read.proofs.Complete.{number_begins, number_not_blank}
 
 pub one_taken : (b : ℕ) (bs : List ℕ) (at : ℕ) (x y : State) → step strict at x b ≡ Ok y → Takes (b ∷ bs) at x (Ok 1) y
@@ -41,20 +43,11 @@ one_refused b bs at x y why fault is fails = λ not.
     let failed = fails (λ same. not (is ∙ ap (λ q. placed q at) same)) in
     rw failed (ap (λ q. Err q) (sym is))
 
-pub one_then : (b n : ℕ) (bs : List ℕ) (at : ℕ) (x y z : State) → step strict at x b ≡ Ok y → n ≤ length bs → ((q : ℕ) → run (step strict) (take n bs) q y ≡ Ok z) → Takes (b ∷ bs) at x (Ok (1 + n)) z
-unfolding run
-one_then b n bs at x y z is le more = (
-  omega arith,
-  (λ _. omega arith),
-  ap (λ (q : ℕ). run (step strict) (take q (b ∷ bs)) at x) (let one : 1 + n ≡ suc n = omega arith in one)
-      ∙ (ap (λ (o : Outcome). on_step (step strict) at o (run (step strict) (take n bs) (at + 1))) is ∙ more (at + 1)),
-)
-
 -- what is held is UTF-8
-pub plain_utf8 : (t : List ℕ) → AllPlain t → IsUtf8 t
+pub plain_utf8 : (t : List ℕ) → Unescaped t → IsUtf8 t
 plain_utf8 t all = run_holds t 0 (record { mode = m.Str p.Plain []; frames = [] }) (record { mode = m.Str p.Plain t; frames = [] }) plain_holds (plain_runs t 0 [] [] all) (34 ∷ []) t ([], end, sym (append-nil t))
 
-pub plain_text_utf8 : (text s : List ℕ) → AllPlain s → text ≡ s → IsUtf8 text
+pub plain_text_utf8 : (text s : List ℕ) → Unescaped s → text ≡ s → IsUtf8 text
 plain_text_utf8 text s all same = subst (λ (t : List ℕ). IsUtf8 t) (sym same) (plain_utf8 s all)
 
 pub after_taken : (b : ℕ) (bs : List ℕ) (at : ℕ) (v : Json) (fs : Frames) (y : State) → after_step fs v b ≡ Ok y → Takes (b ∷ bs) at (record { mode = m.After v; frames = fs }) (Ok 1) y
@@ -93,8 +86,12 @@ then_err bytes more n at x y z z' fault is le first second = λ not.
     ∙ (run_both (step strict) (take n bytes) more at x y first ∙ ap (λ (q : ℕ). run (step strict) more (at + q) y) long) in
     ap whole all ∙ second not
 
+-- frames
+pub popped : (old new : Frames) (last : Frame) → old ≡ new ++ (last ∷ []) → reverse old ≡ last ∷ reverse new
+popped old new last is = ap reverse is ∙ reverse-append new (last ∷ [])
+
 -- names
-into_name : (fs : Frames) (ms : Pairs) (place at : ℕ) (name w : List ℕ) → AllPlain name
+into_name : (fs : Frames) (ms : Pairs) (place at : ℕ) (name w : List ℕ) → Unescaped name
     → run (step strict) (name ++ (34 ∷ w)) at (record { mode = m.Naming ms place p.Plain []; frames = fs }) ≡ on_step (step strict) (at + length name) (named true fs ms place name) (run (step strict) w (at + length name + 1))
 unfolding run step scan plain_scan
 into_name fs ms place at name w all = run_both (step strict) name (34 ∷ w) at _ _ (naming_runs name at ms place [] fs all)
@@ -107,7 +104,7 @@ named_twice : (fs : Frames) (ms : Pairs) (place : ℕ) (name : List ℕ) → has
 unfolding named
 named_twice fs ms place name is = rw is refl
 
-whole_name : (fs : Frames) (ms : Pairs) (place at : ℕ) (name : List ℕ) → AllPlain name → has ms name ≡ false
+whole_name : (fs : Frames) (ms : Pairs) (place at : ℕ) (name : List ℕ) → Unescaped name → has ms name ≡ false
     → run (step strict) (name ++ (34 ∷ (58 ∷ []))) at (record { mode = m.Naming ms place p.Plain []; frames = fs }) ≡ Ok (record { mode = m.Value; frames = f.Member ms name ∷ fs })
 unfolding run step colon_step
 whole_name fs ms place at name all is =
@@ -117,44 +114,119 @@ whole_name fs ms place at name all is =
 take_more : (n k : ℕ) (b : ℕ) (bs : List ℕ) → n ≡ suc k → take n (b ∷ bs) ≡ b ∷ take k bs
 take_more n k b bs is = ap (λ (q : ℕ). take q (b ∷ bs)) is
 
-pub first_name_taken : (fs : Frames) (mode : Mode) (at n : ℕ) (bytes : List ℕ) → mode ≡ m.FirstName → n + 2 ≤ length bytes → AllPlain (take n bytes) → take (n + 2) bytes ≡ take n bytes ++ (34 ∷ (58 ∷ []))
-    → Takes (34 ∷ bytes) at (record { mode = mode; frames = fs }) (Ok (n + 3)) (record { mode = m.Value; frames = f.Member [] (take n bytes) ∷ fs })
-unfolding run step first_name_step
-first_name_taken fs mode at n bytes is_first le all ends = (
-  omega arith,
-  (λ _. omega arith),
-  ap (λ (w : List ℕ). run (step strict) w at (record { mode = mode; frames = fs })) (take_more (n + 3) (n + 2) 34 bytes (omega arith) ∙ ap (λ (w : List ℕ). 34 ∷ w) ends)
-      ∙ (ap (λ (q : Mode). run (step strict) (34 ∷ (take n bytes ++ (34 ∷ (58 ∷ [])))) at (record { mode = q; frames = fs })) is_first ∙ whole_name fs [] at (at + 1) (take n bytes) all refl),
-)
+-- white space is passed where a value or a name is waited for
+abbrev Waits : Mode → Frames → Type 0
+Waits mode fs = (at b : ℕ) → is_blank b ≡ true → step strict at (record { mode = mode; frames = fs }) b ≡ Ok (record { mode = mode; frames = fs })
 
-pub next_name_taken : (fs : Frames) (ms : Pairs) (name : List ℕ) (v : Json) (at n : ℕ) (bytes : List ℕ) → n + 2 ≤ length bytes → AllPlain (take n bytes) → take (n + 2) bytes ≡ take n bytes ++ (34 ∷ (58 ∷ []))
-    → has (ms ++ ((name, v) ∷ [])) (take n bytes) ≡ false
-    → Takes (44 ∷ (34 ∷ bytes)) at (record { mode = m.After v; frames = f.Member ms name ∷ fs }) (Ok (n + 4)) (record { mode = m.Value; frames = f.Member (ms ++ ((name, v) ∷ [])) (take n bytes) ∷ fs })
-unfolding run step after_step next_name_step
-next_name_taken fs ms name v at n bytes le all ends is_new = (
-  omega arith,
-  (λ _. omega arith),
-  ap (λ (w : List ℕ). run (step strict) w at (record { mode = m.After v; frames = f.Member ms name ∷ fs }))
-      (take_more (n + 4) (n + 3) 44 (34 ∷ bytes) (omega arith) ∙ ap (λ (w : List ℕ). 44 ∷ w) (take_more (n + 3) (n + 2) 34 bytes (omega arith) ∙ ap (λ (w : List ℕ). 34 ∷ w) ends))
-      ∙ whole_name fs (ms ++ ((name, v) ∷ [])) (at + 1) (at + 1 + 1) (take n bytes) all is_new,
-)
+pub blank_runs : (mode : Mode) (fs : Frames) → Waits mode fs → (ws : List ℕ) (at : ℕ) → IsSpace ws → run (step strict) ws at (record { mode = mode; frames = fs }) ≡ Ok (record { mode = mode; frames = fs })
+unfolding run
+blank_runs mode fs waits [] at all = refl
+blank_runs mode fs waits (w ∷ ws) at all = ap (λ (o : Outcome). on_step (step strict) at o (run (step strict) ws (at + 1))) (waits at w all.0) ∙ blank_runs mode fs waits ws (at + 1) all.1
 
-pub next_name_twice : (fs : Frames) (ms : Pairs) (name : List ℕ) (v : Json) (at n : ℕ) (bytes : List ℕ) (y : State) → AllPlain (take n bytes) → take (n + 2) bytes ≡ take n bytes ++ (34 ∷ (58 ∷ []))
-    → has (ms ++ ((name, v) ∷ [])) (take n bytes) ≡ true
-    → Takes (44 ∷ (34 ∷ bytes)) at (record { mode = m.After v; frames = f.Member ms name ∷ fs }) (Err (faults.Twice (at + 1))) y
-unfolding run step after_step next_name_step
-next_name_twice fs ms name v at n bytes y all ends is_old = λ _.
+pub value_waits : (fs : Frames) → Waits m.Value fs
+unfolding step value_step
+value_waits fs at b is = rw is refl
+
+pub first_waits : (fs : Frames) → Waits m.First fs
+unfolding step first_step
+first_waits fs at b is = rw is refl
+
+pub first_name_waits : (fs : Frames) → Waits m.FirstName fs
+unfolding step first_name_step
+first_name_waits fs at b is = rw is refl
+
+pub next_name_waits : (ms : Pairs) (fs : Frames) → Waits (m.NextName ms) fs
+unfolding step next_name_step
+next_name_waits ms fs at b is = rw is refl
+
+pub blank_taken : (mode mode' : Mode) (fs : Frames) (at b k : ℕ) (bs : List ℕ) → mode ≡ mode' → Waits mode' fs → is_blank b ≡ true → k ≤ length bs → IsSpace (take k bs)
+    → Takes (b ∷ bs) at (record { mode = mode; frames = fs }) (Ok (1 + k)) (record { mode = mode; frames = fs })
+blank_taken mode mode' fs at b k bs same waits is le all =
+    subst (λ (q : Mode). Takes (b ∷ bs) at (record { mode = q; frames = fs }) (Ok (1 + k)) (record { mode = q; frames = fs })) (sym same) (
+      omega arith,
+      (λ _. omega arith),
+      ap (λ (q : ℕ). run (step strict) (take q (b ∷ bs)) at (record { mode = mode'; frames = fs })) (let one : 1 + k ≡ suc k = omega arith in one)
+          ∙ blank_runs mode' fs waits (b ∷ take k bs) at (is, all),
+    )
+
+pub blank_then_ok : (mode : Mode) (fs : Frames) (at b k : ℕ) (bytes : List ℕ) (z : State) → Waits mode fs → b ≤ length bytes → IsSpace (take b bytes)
+    → Reaches (take (length bytes - b) (drop b bytes)) (at + b) (record { mode = mode; frames = fs }) (Ok k) z → Reaches bytes at (record { mode = mode; frames = fs }) (Ok (b + k)) z
+blank_then_ok mode fs at b k bytes z waits le all reached =
+    let rest : drop b bytes ≡ take (length bytes - b) (drop b bytes) = sym (rest_is b bytes le) in
+    (omega (arith, length-drop b bytes, ap length rest, reached.0), split_run bytes _ b k at _ (record { mode = mode; frames = fs }) z rest le (blank_runs mode fs waits (take b bytes) at all) reached.1)
+
+pub blank_then_err : (mode : Mode) (fs : Frames) (at b : ℕ) (bytes : List ℕ) (z z' : State) (fault : JsonFault) → Waits mode fs → b ≤ length bytes → IsSpace (take b bytes)
+    → Reaches (take (length bytes - b) (drop b bytes)) (at + b) (record { mode = mode; frames = fs }) (Err fault) z' → Reaches bytes at (record { mode = mode; frames = fs }) (Err fault) z
+blank_then_err mode fs at b bytes z z' fault waits le all failed =
+    then_err bytes _ b at _ (record { mode = mode; frames = fs }) z z' fault (sym (rest_is b bytes le)) le (blank_runs mode fs waits (take b bytes) at all) failed
+
+-- a whole name, its colon and white space
+name_begun : (fs : Frames) (ms : Pairs) (at n : ℕ) (bytes : List ℕ) → Unescaped (take n bytes) → take (n + 2) bytes ≡ take n bytes ++ (34 ∷ (58 ∷ [])) → has ms (take n bytes) ≡ false
+    → run (step strict) (take (n + 3) (34 ∷ bytes)) at (record { mode = m.NextName ms; frames = fs }) ≡ Ok (record { mode = m.Value; frames = f.Member ms (take n bytes) ∷ fs })
+unfolding run step next_name_step
+name_begun fs ms at n bytes all ends is_new =
+    ap (λ (w : List ℕ). run (step strict) w at (record { mode = m.NextName ms; frames = fs })) (take_more (n + 3) (n + 2) 34 bytes (omega arith) ∙ ap (λ (w : List ℕ). 34 ∷ w) ends)
+    ∙ whole_name fs ms at (at + 1) (take n bytes) all is_new
+
+pub name_taken : (old new : Frames) (ms : Pairs) (name : List ℕ) (at n k : ℕ) (bytes : List ℕ) → n + 2 ≤ length bytes → Unescaped (take n bytes) → take (n + 2) bytes ≡ take n bytes ++ (34 ∷ (58 ∷ []))
+    → name ≡ take n bytes → has ms name ≡ false → new ≡ old ++ (f.Member ms name ∷ []) → k ≤ length (take (length bytes - (n + 2)) (drop (n + 2) bytes)) → IsSpace (take k (take (length bytes - (n + 2)) (drop (n + 2) bytes)))
+    → Reaches (34 ∷ bytes) at (record { mode = m.NextName ms; frames = reverse old }) (Ok (n + 3 + k)) (record { mode = m.Value; frames = reverse new })
+name_taken old new ms name at n k bytes le all ends same is_new pushed blanks_le blanks =
+    let rest : take (length bytes - (n + 2)) (drop (n + 2) bytes) ≡ drop (n + 2) bytes = rest_is (n + 2) bytes le in
+    let fs : reverse new ≡ f.Member ms (take n bytes) ∷ reverse old = popped new old (f.Member ms name) pushed ∙ ap (λ (t : List ℕ). f.Member ms t ∷ reverse old) same in
+    let fresh : has ms (take n bytes) ≡ false = ap (λ (t : List ℕ). has ms t) (sym same) ∙ is_new in
+    let later : drop (n + 3) (34 ∷ bytes) ≡ drop (n + 2) bytes = ap (λ (q : ℕ). drop q (34 ∷ bytes)) (let x : n + 3 ≡ suc (n + 2) = omega arith in x) in (
+      omega (arith, blanks_le, ap length rest, length-drop (n + 2) bytes),
+      split_run (34 ∷ bytes) (drop (n + 2) bytes) (n + 3) k at _ (record { mode = m.Value; frames = reverse new }) _ later (omega arith)
+          (name_begun (reverse old) ms at n bytes all ends fresh ∙ ap (λ (q : Frames). Ok (record { mode = m.Value; frames = q })) (sym fs))
+          (blank_runs m.Value (reverse new) (value_waits (reverse new)) (take k (drop (n + 2) bytes)) (at + (n + 3)) (subst (λ (w : List ℕ). IsSpace (take k w)) rest blanks)),
+    )
+
+pub name_twice : (fs : Frames) (ms : Pairs) (name : List ℕ) (at n : ℕ) (bytes : List ℕ) (y : State) → Unescaped (take n bytes) → take (n + 2) bytes ≡ take n bytes ++ (34 ∷ (58 ∷ []))
+    → name ≡ take n bytes → has ms name ≡ true → Reaches (34 ∷ bytes) at (record { mode = m.NextName ms; frames = fs }) (Err (faults.Twice at)) y
+unfolding run step next_name_step
+name_twice fs ms name at n bytes y all ends same is_old = λ _.
     let cut : bytes ≡ take n bytes ++ (34 ∷ (58 ∷ drop (n + 2) bytes)) =
     sym (take-append-drop (n + 2) bytes) ∙ (ap (λ (w : List ℕ). w ++ drop (n + 2) bytes) ends ∙ append_assoc (take n bytes) (34 ∷ (58 ∷ [])) (drop (n + 2) bytes)) in
-    let ms' : Pairs = ms ++ ((name, v) ∷ []) in
-    let reached : run (step strict) bytes (at + 1 + 1) (record { mode = m.Naming (ms ++ ((name, v) ∷ [])) (at + 1) p.Plain []; frames = fs }) ≡ Err (e.Twice (at + 1), at + 1 + 1 + length (take n bytes)) =
-    ap (λ (w : List ℕ). run (step strict) w (at + 1 + 1) (record { mode = m.Naming (ms ++ ((name, v) ∷ [])) (at + 1) p.Plain []; frames = fs })) cut
-    ∙ (into_name fs (ms ++ ((name, v) ∷ [])) (at + 1) (at + 1 + 1) (take n bytes) (58 ∷ drop (n + 2) bytes) all
-    ∙ ap (λ (o : Outcome). on_step (step strict) (at + 1 + 1 + length (take n bytes)) o (run (step strict) (58 ∷ drop (n + 2) bytes) (at + 1 + 1 + length (take n bytes) + 1))) (named_twice fs (ms ++ ((name, v) ∷ [])) (at + 1) (take n bytes) is_old)) in
+    let twice : has ms (take n bytes) ≡ true = ap (λ (t : List ℕ). has ms t) (sym same) ∙ is_old in
+    let reached : run (step strict) bytes (at + 1) (record { mode = m.Naming ms at p.Plain []; frames = fs }) ≡ Err (e.Twice at, at + 1 + length (take n bytes)) =
+    ap (λ (w : List ℕ). run (step strict) w (at + 1) (record { mode = m.Naming ms at p.Plain []; frames = fs })) cut
+    ∙ (into_name fs ms at (at + 1) (take n bytes) (58 ∷ drop (n + 2) bytes) all
+    ∙ ap (λ (o : Outcome). on_step (step strict) (at + 1 + length (take n bytes)) o (run (step strict) (58 ∷ drop (n + 2) bytes) (at + 1 + length (take n bytes) + 1))) (named_twice fs ms at (take n bytes) twice)) in
     ap whole reached
 
+-- the first name begins as any other
+as_first : (fs : Frames) (at : ℕ) (bs : List ℕ) (r : Result ℕ JsonFault) (z : State) → IfOk r (λ k. 0 < k) → Reaches (34 ∷ bs) at (record { mode = m.NextName []; frames = fs }) r z → Takes (34 ∷ bs) at (record { mode = m.FirstName; frames = fs }) r z
+unfolding run step first_name_step next_name_step
+as_first fs at bs (Ok zero) z some h = absurd (omega (arith, some))
+as_first fs at bs (Ok (suc k)) z some h = (h.0, (λ _. some), h.1)
+as_first fs at bs (Err fault) z some h = h
+
+pub first_name_as : (mode : Mode) (fs : Frames) (ms : Pairs) (at b : ℕ) (bs : List ℕ) (r : Result ℕ JsonFault) (z : State) → mode ≡ m.FirstName → ms ≡ [] → b ≡ 34 → IfOk r (λ k. 0 < k)
+    → Reaches (34 ∷ bs) at (record { mode = m.NextName ms; frames = fs }) r z → Takes (b ∷ bs) at (record { mode = mode; frames = fs }) r z
+first_name_as mode fs ms at b bs r z is none_yet quote some reached =
+    subst (λ (c : ℕ). Takes (c ∷ bs) at (record { mode = mode; frames = fs }) r z) (sym quote)
+    (subst (λ (q : Mode). Takes (34 ∷ bs) at (record { mode = q; frames = fs }) r z) (sym is) (as_first fs at bs r z some (subst (λ (q : Pairs). Reaches (34 ∷ bs) at (record { mode = m.NextName q; frames = fs }) r z) none_yet reached)))
+
+-- a comma after a member
+pub member_then_ok : (fs : Frames) (ms ms' : Pairs) (name : List ℕ) (v : Json) (at k : ℕ) (bytes : List ℕ) (z : State) → ms' ≡ ms ++ ((name, v) ∷ [])
+    → Reaches bytes (at + 1) (record { mode = m.NextName ms'; frames = fs }) (Ok k) z → Takes (44 ∷ bytes) at (record { mode = m.After v; frames = f.Member ms name ∷ fs }) (Ok (1 + k)) z
+unfolding run step after_step
+member_then_ok fs ms ms' name v at k bytes z grown reached = (
+  omega (arith, reached.0),
+  (λ _. omega arith),
+  ap (λ (q : ℕ). run (step strict) (take q (44 ∷ bytes)) at (record { mode = m.After v; frames = f.Member ms name ∷ fs })) (let one : 1 + k ≡ suc k = omega arith in one)
+      ∙ (ap (λ (q : Pairs). run (step strict) (take k bytes) (at + 1) (record { mode = m.NextName q; frames = fs })) (sym grown) ∙ reached.1),
+)
+
+pub member_then_err : (fs : Frames) (ms ms' : Pairs) (name : List ℕ) (v : Json) (at : ℕ) (bytes : List ℕ) (z z' : State) (fault : JsonFault) → ms' ≡ ms ++ ((name, v) ∷ [])
+    → Reaches bytes (at + 1) (record { mode = m.NextName ms'; frames = fs }) (Err fault) z' → Takes (44 ∷ bytes) at (record { mode = m.After v; frames = f.Member ms name ∷ fs }) (Err fault) z
+unfolding run step after_step
+member_then_err fs ms ms' name v at bytes z z' fault grown failed = λ not.
+    ap (λ (q : Pairs). whole (run (step strict) bytes (at + 1) (record { mode = m.NextName q; frames = fs }))) (sym grown) ∙ failed not
+
 -- strings
-pub string_taken : (fs : Frames) (at n : ℕ) (bytes after : List ℕ) → AllPlain (take n bytes) → drop n bytes ≡ 34 ∷ after
+pub string_taken : (fs : Frames) (at n : ℕ) (bytes after : List ℕ) → Unescaped (take n bytes) → drop n bytes ≡ 34 ∷ after
     → run (step strict) (take (n + 2) (34 ∷ bytes)) at (record { mode = m.Value; frames = fs }) ≡ Ok (record { mode = m.After (j.Str (take n bytes)); frames = fs })
 unfolding run step value_step begin scan plain_scan
 string_taken fs at n bytes after all is =
@@ -163,7 +235,7 @@ string_taken fs at n bytes after all is =
     ap (λ (w : List ℕ). run (step strict) w at (record { mode = m.Value; frames = fs })) (take_more (n + 2) (n + 1) 34 bytes (omega arith) ∙ ap (λ (w : List ℕ). 34 ∷ w) front)
     ∙ run_both (step strict) (take n bytes) (34 ∷ []) (at + 1) _ _ (plain_runs (take n bytes) (at + 1) [] fs all)
 
-pub string_begun : (fs : Frames) (at n : ℕ) (bytes : List ℕ) → n ≤ length bytes → AllPlain (take n bytes)
+pub string_begun : (fs : Frames) (at n : ℕ) (bytes : List ℕ) → n ≤ length bytes → Unescaped (take n bytes)
     → Takes (34 ∷ bytes) at (record { mode = m.Value; frames = fs }) (Ok (n + 1)) (record { mode = m.Str p.Plain (take n bytes); frames = fs })
 unfolding run step value_step begin
 string_begun fs at n bytes le all = (
@@ -238,17 +310,22 @@ stops_here xs i part lt is = rw (drop-cons xs i 0 lt) is
 pub stops_end : (xs : List ℕ) (i : ℕ) (part : Digit) → length xs ≤ i → Stops part (drop i xs)
 stops_end xs i part le = rw (drop_all i xs le) tt
 
--- frames
-pub popped : (old new : Frames) (last : Frame) → old ≡ new ++ (last ∷ []) → reverse old ≡ last ∷ reverse new
-popped old new last is = ap reverse is ∙ reverse-append new (last ∷ [])
-
+-- a comma after an item
 pub comma_none : (old : Frames) (v : Json) (bs : List ℕ) (at : ℕ) (y : State) → old ≡ [] → Takes (44 ∷ bs) at (record { mode = m.After v; frames = reverse old }) (Err (faults.Syntax at)) y
 unfolding run step after_step
 comma_none old v bs at y is = λ _. ap (λ (fs : Frames). whole (run (step strict) (44 ∷ bs) at (record { mode = m.After v; frames = reverse fs }))) is
 
-pub comma_item : (old new : Frames) (items : List Json) (v : Json) (bs : List ℕ) (at : ℕ) (y : State) → old ≡ new ++ (f.List items ∷ []) → after_by (f.List items ∷ reverse new) v 44 ≡ Ok y
-    → Takes (44 ∷ bs) at (record { mode = m.After v; frames = reverse old }) (Ok 1) y
-comma_item old new items v bs at y is made = after_taken 44 bs at v (reverse old) y (comma_by (reverse old) v ∙ (ap (λ (fs : Frames). after_by fs v 44) (popped old new (f.List items) is) ∙ made))
+pub comma_item : (old new : Frames) (items : List Json) (v : Json) (bs : List ℕ) (at k : ℕ) (y : State) → old ≡ new ++ (f.List items ∷ []) → after_by (f.List items ∷ reverse new) v 44 ≡ Ok y → k ≤ length bs → IsSpace (take k bs)
+    → Takes (44 ∷ bs) at (record { mode = m.After v; frames = reverse old }) (Ok (1 + k)) y
+unfolding run step
+comma_item old new items v bs at k y is made le all =
+    subst (λ (z : State). Takes (44 ∷ bs) at (record { mode = m.After v; frames = reverse old }) (Ok (1 + k)) z) (ok_is (record { mode = m.Value; frames = f.List (items ++ (v ∷ [])) ∷ reverse new }) y made) (
+      omega arith,
+      (λ _. omega arith),
+      split_run (44 ∷ bs) bs 1 k at _ (record { mode = m.Value; frames = f.List (items ++ (v ∷ [])) ∷ reverse new }) _ refl (omega arith)
+          (ap (λ (o : Outcome). on_step (step strict) at o (run (step strict) [] (at + 1))) (comma_by (reverse old) v ∙ ap (λ (q : Frames). after_by q v 44) (popped old new (f.List items) is)))
+          (blank_runs m.Value (f.List (items ++ (v ∷ [])) ∷ reverse new) (value_waits (f.List (items ++ (v ∷ [])) ∷ reverse new)) (take k bs) (at + 1) all),
+    )
 
 pub comma_item_refused : (old new : Frames) (items : List Json) (v : Json) (bs : List ℕ) (at : ℕ) (y : State) (why : Refusal) (fault : JsonFault) → old ≡ new ++ (f.List items ∷ []) → fault ≡ placed why at
     → (why ≢ e.Memory → after_by (f.List items ∷ reverse new) v 44 ≡ Err why) → Takes (44 ∷ bs) at (record { mode = m.After v; frames = reverse old }) (Err fault) y
@@ -262,10 +339,6 @@ at_value mode fs bytes at r z is taken = subst (λ (q : Mode). Takes bytes at (r
 past : (n : ℕ) (b : ℕ) (bytes : List ℕ) → drop (n + 1) (b ∷ bytes) ≡ drop n bytes
 past n b bytes = ap (λ (q : ℕ). drop q (b ∷ bytes)) (let x : n + 1 ≡ suc n = omega arith in x)
 
--- the slice from a place on
-rest_is : (n : ℕ) (bytes : List ℕ) → n ≤ length bytes → take (length bytes - n) (drop n bytes) ≡ drop n bytes
-rest_is n bytes le = ap (λ (q : ℕ). take q (drop n bytes)) (sym (length-drop n bytes)) ∙ take-length (drop n bytes)
-
 quoted_next : (n : ℕ) (bytes : List ℕ) → n < length bytes → get_or bytes n 0 ≡ 34 → drop n bytes ≡ 34 ∷ drop (n + 1) bytes
 quoted_next n bytes lt is = drop-cons bytes n 0 lt ∙ (ap (λ (c : ℕ). c ∷ drop (suc n) bytes) is ∙ ap (λ (q : ℕ). 34 ∷ drop q bytes) (sym (add-one n)))
 
@@ -273,21 +346,21 @@ past_quote : (n : ℕ) (bytes : List ℕ) → n < length bytes → drop (n + 2) 
 past_quote n bytes lt =
     ap (λ (q : ℕ). drop q (34 ∷ bytes)) (let x : n + 2 ≡ suc (n + 1) = omega arith in x) ∙ sym (rest_is (n + 1) bytes (omega arith))
 
-pub string_ok : (mode : Mode) (fs : Frames) (at n k : ℕ) (bytes text : List ℕ) (z : State) → mode ≡ m.Value → AllPlain (take n bytes) → n < length bytes → get_or bytes n 0 ≡ 34 → text ≡ take n bytes
+pub string_ok : (mode : Mode) (fs : Frames) (at n k : ℕ) (bytes text : List ℕ) (z : State) → mode ≡ m.Value → Unescaped (take n bytes) → n < length bytes → get_or bytes n 0 ≡ 34 → text ≡ take n bytes
     → Takes (take (length bytes - (n + 1)) (drop (n + 1) bytes)) (at + (n + 2)) (record { mode = m.After (j.Str text); frames = fs }) (Ok k) z → Takes (34 ∷ bytes) at (record { mode = mode; frames = fs }) (Ok (n + 2 + k)) z
 string_ok mode fs at n k bytes text z is all lt cut same next =
     at_value mode fs (34 ∷ bytes) at (Ok (n + 2 + k)) z is
     (then_ok (34 ∷ bytes) _ (n + 2) k at _ (record { mode = m.After (j.Str text); frames = fs }) z (past_quote n bytes lt) (omega arith) (omega arith)
     (string_taken fs at n bytes (drop (n + 1) bytes) all (quoted_next n bytes lt cut) ∙ ap (λ (t : List ℕ). Ok (record { mode = m.After (j.Str t); frames = fs })) (sym same)) next)
 
-pub string_err : (mode : Mode) (fs : Frames) (at n : ℕ) (bytes text : List ℕ) (z z' : State) (fault : JsonFault) → mode ≡ m.Value → AllPlain (take n bytes) → n < length bytes → get_or bytes n 0 ≡ 34 → text ≡ take n bytes
+pub string_err : (mode : Mode) (fs : Frames) (at n : ℕ) (bytes text : List ℕ) (z z' : State) (fault : JsonFault) → mode ≡ m.Value → Unescaped (take n bytes) → n < length bytes → get_or bytes n 0 ≡ 34 → text ≡ take n bytes
     → Takes (take (length bytes - (n + 1)) (drop (n + 1) bytes)) (at + (n + 2)) (record { mode = m.After (j.Str text); frames = fs }) (Err fault) z' → Takes (34 ∷ bytes) at (record { mode = mode; frames = fs }) (Err fault) z
 string_err mode fs at n bytes text z z' fault is all lt cut same next =
     at_value mode fs (34 ∷ bytes) at (Err fault) z is
     (then_err (34 ∷ bytes) _ (n + 2) at _ (record { mode = m.After (j.Str text); frames = fs }) z z' fault (past_quote n bytes lt) (omega arith)
     (string_taken fs at n bytes (drop (n + 1) bytes) all (quoted_next n bytes lt cut) ∙ ap (λ (t : List ℕ). Ok (record { mode = m.After (j.Str t); frames = fs })) (sym same)) next)
 
-pub string_open : (mode : Mode) (fs : Frames) (at n : ℕ) (bytes text : List ℕ) → mode ≡ m.Value → n ≤ length bytes → AllPlain (take n bytes) → text ≡ take n bytes
+pub string_open : (mode : Mode) (fs : Frames) (at n : ℕ) (bytes text : List ℕ) → mode ≡ m.Value → n ≤ length bytes → Unescaped (take n bytes) → text ≡ take n bytes
     → Takes (34 ∷ bytes) at (record { mode = mode; frames = fs }) (Ok (n + 1)) (record { mode = m.Str p.Plain text; frames = fs })
 string_open mode fs at n bytes text is le all same =
     at_value mode fs (34 ∷ bytes) at (Ok (n + 1)) _ is (subst (λ (t : List ℕ). Takes (34 ∷ bytes) at (record { mode = m.Value; frames = fs }) (Ok (n + 1)) (record { mode = m.Str p.Plain t; frames = fs })) (sym same) (string_begun fs at n bytes le all))
@@ -336,6 +409,39 @@ number_utf8 n b bytes text part last starts follows same may =
     subst (λ (t : List ℕ). IsUtf8 t) (sym same)
     (number_ends last (b ∷ take n bytes) (run_holds (b ∷ take n bytes) 0 (record { mode = m.Value; frames = [] }) (record { mode = m.Number last (b ∷ take n bytes); frames = [] }) tt (number_taken [] 0 b (take n bytes) part last starts follows)) may)
 
+-- a whole word, and what follows it
+word_read : (word : Word) (fs : Frames) (at : ℕ) → run (step strict) (letters word) at (record { mode = m.Value; frames = fs }) ≡ Ok (record { mode = m.After (meant word); frames = fs })
+unfolding run step value_step begin word_step
+word_read w.Null fs at = refl
+word_read w.True fs at = refl
+word_read w.False fs at = refl
+
+word_cut : (word : Word) (bytes : List ℕ) → (take (length (letters word)) (letters word ++ bytes) ≡ letters word) × (drop (length (letters word)) (letters word ++ bytes) ≡ bytes) × (0 < length (letters word)) × (length (letters word) ≤ length (letters word ++ bytes))
+word_cut w.Null bytes = (refl, refl, omega arith, omega arith)
+word_cut w.True bytes = (refl, refl, omega arith, omega arith)
+word_cut w.False bytes = (refl, refl, omega arith, omega arith)
+
+word_at : (word : Word) (mode : Mode) (fs : Frames) (at n : ℕ) (bytes : List ℕ) → mode ≡ m.Value → n ≡ length (letters word)
+    → run (step strict) (take n (letters word ++ bytes)) at (record { mode = mode; frames = fs }) ≡ Ok (record { mode = m.After (meant word); frames = fs })
+word_at word mode fs at n bytes is same =
+    ap (λ (q : ℕ). run (step strict) (take q (letters word ++ bytes)) at (record { mode = mode; frames = fs })) same
+    ∙ (ap (λ (k : List ℕ). run (step strict) k at (record { mode = mode; frames = fs })) (word_cut word bytes).0
+    ∙ (ap (λ (q : Mode). run (step strict) (letters word) at (record { mode = q; frames = fs })) is ∙ word_read word fs at))
+
+pub word_then_ok : (word : Word) (mode : Mode) (fs : Frames) (at n k : ℕ) (bytes : List ℕ) (v : Json) (z : State) → mode ≡ m.Value → n ≡ length (letters word) → v ≡ meant word
+    → Takes bytes (at + n) (record { mode = m.After v; frames = fs }) (Ok k) z → Takes (letters word ++ bytes) at (record { mode = mode; frames = fs }) (Ok (n + k)) z
+word_then_ok word mode fs at n k bytes v z is same meaning next =
+    let cut = word_cut word bytes in
+    then_ok (letters word ++ bytes) bytes n k at _ (record { mode = m.After (meant word); frames = fs }) z (ap (λ (q : ℕ). drop q (letters word ++ bytes)) same ∙ cut.1) (omega (arith, cut.3, same)) (omega (arith, cut.2, same))
+    (word_at word mode fs at n bytes is same) (subst (λ (x : Json). Takes bytes (at + n) (record { mode = m.After x; frames = fs }) (Ok k) z) meaning next)
+
+pub word_then_err : (word : Word) (mode : Mode) (fs : Frames) (at n : ℕ) (bytes : List ℕ) (v : Json) (z z' : State) (fault : JsonFault) → mode ≡ m.Value → n ≡ length (letters word) → v ≡ meant word
+    → Takes bytes (at + n) (record { mode = m.After v; frames = fs }) (Err fault) z' → Takes (letters word ++ bytes) at (record { mode = mode; frames = fs }) (Err fault) z
+word_then_err word mode fs at n bytes v z z' fault is same meaning next =
+    let cut = word_cut word bytes in
+    then_err (letters word ++ bytes) bytes n at _ (record { mode = m.After (meant word); frames = fs }) z z' fault (ap (λ (q : ℕ). drop q (letters word ++ bytes)) same ∙ cut.1) (omega (arith, cut.3, same))
+    (word_at word mode fs at n bytes is same) (subst (λ (x : Json). Takes bytes (at + n) (record { mode = m.After x; frames = fs }) (Err fault) z') meaning next)
+
 -- the first item of a list begins as a value does
 first_begins : (fs : Frames) (at b : ℕ) → is_blank b ≡ false → (b == 93) ≡ false → step strict at (record { mode = m.First; frames = fs }) b ≡ step strict at (record { mode = m.Value; frames = f.List [] ∷ fs }) b
 unfolding step first_step value_step
@@ -362,27 +468,6 @@ pub first_as_value : (mode : Mode) (fs fs' : Frames) (at b : ℕ) (bs : List ℕ
     → Takes (b ∷ bs) at (record { mode = m.Value; frames = fs' }) r z → Takes (b ∷ bs) at (record { mode = mode; frames = fs }) r z
 first_as_value mode fs fs' at b bs (Ok k) z is pushed not_blank not_end taken = first_ok mode fs fs' at b k bs z is pushed not_blank not_end taken
 first_as_value mode fs fs' at b bs (Err fault) z is pushed not_blank not_end taken = first_err mode fs fs' at b bs z fault is pushed not_blank not_end taken
-
-pub next_name_pushed : (old new : Frames) (ms ms' : Pairs) (name next : List ℕ) (v : Json) (at n : ℕ) (bytes : List ℕ) → n + 2 ≤ length bytes → AllPlain (take n bytes) → take (n + 2) bytes ≡ take n bytes ++ (34 ∷ (58 ∷ []))
-    → ms' ≡ ms ++ ((name, v) ∷ []) → next ≡ take n bytes → has ms' next ≡ false → new ≡ old ++ (f.Member ms' next ∷ [])
-    → Takes (44 ∷ (34 ∷ bytes)) at (record { mode = m.After v; frames = f.Member ms name ∷ reverse old }) (Ok (n + 4)) (record { mode = m.Value; frames = reverse new })
-next_name_pushed old new ms ms' name next v at n bytes le all ends grown same is_new pushed =
-    let fs : reverse new ≡ f.Member (ms ++ ((name, v) ∷ [])) (take n bytes) ∷ reverse old =
-    popped new old (f.Member ms' next) pushed ∙ (ap (λ (q : Pairs). f.Member q next ∷ reverse old) grown ∙ ap (λ (t : List ℕ). f.Member (ms ++ ((name, v) ∷ [])) t ∷ reverse old) same) in
-    let fresh : has (ms ++ ((name, v) ∷ [])) (take n bytes) ≡ false =
-    ap (λ (t : List ℕ). has (ms ++ ((name, v) ∷ [])) t) (sym same) ∙ (ap (λ (q : Pairs). has q next) (sym grown) ∙ is_new) in
-    subst (λ (q : Frames). Takes (44 ∷ (34 ∷ bytes)) at (record { mode = m.After v; frames = f.Member ms name ∷ reverse old }) (Ok (n + 4)) (record { mode = m.Value; frames = q })) (sym fs)
-    (next_name_taken (reverse old) ms name v at n bytes le all ends fresh)
-
-pub first_name_pushed : (old new : Frames) (mode : Mode) (name : List ℕ) (at b n : ℕ) (bytes : List ℕ) → b ≡ 34 → mode ≡ m.FirstName → n + 2 ≤ length bytes → AllPlain (take n bytes) → take (n + 2) bytes ≡ take n bytes ++ (34 ∷ (58 ∷ []))
-    → name ≡ take n bytes → new ≡ old ++ (f.Member [] name ∷ [])
-    → Takes (b ∷ bytes) at (record { mode = mode; frames = reverse old }) (Ok (n + 3)) (record { mode = m.Value; frames = reverse new })
-first_name_pushed old new mode name at b n bytes quote is le all ends same pushed =
-    let fs : reverse new ≡ f.Member [] (take n bytes) ∷ reverse old =
-    popped new old (f.Member [] name) pushed ∙ ap (λ (t : List ℕ). f.Member [] t ∷ reverse old) same in
-    subst (λ (c : ℕ). Takes (c ∷ bytes) at (record { mode = mode; frames = reverse old }) (Ok (n + 3)) (record { mode = m.Value; frames = reverse new })) (sym quote)
-    (subst (λ (q : Frames). Takes (34 ∷ bytes) at (record { mode = mode; frames = reverse old }) (Ok (n + 3)) (record { mode = m.Value; frames = q })) (sym fs)
-    (first_name_taken (reverse old) mode at n bytes is le all ends))
 
 pub first_pushed : (old new : Frames) (mode : Mode) (at b : ℕ) (bs : List ℕ) (r : Result ℕ JsonFault) (z : State) → mode ≡ m.First → new ≡ old ++ (f.List [] ∷ []) → is_blank b ≡ false → (b ≡ 93 → ⊥)
     → Takes (b ∷ bs) at (record { mode = m.Value; frames = reverse new }) r z → Takes (b ∷ bs) at (record { mode = mode; frames = reverse old }) r z

@@ -12,11 +12,13 @@ use Rattle.json_read.specs.declared.string.Quad.{Quad}
 use Rattle.json_read.specs.declared.string.Quad.TheVariants as q
 use Rattle.json_read.specs.declared.string.Grown.{Grown}
 use Rattle.json_read.specs.declared.string.Grown.TheVariants as g
-use Rattle.json_value.specs.Strings.{within, is_plain, short, hex_digit, is_high, is_low, join, four_digits}
+use Rattle.json_value.specs.Strings.{IsWide, within, is_plain, short, hex_digit, is_high, is_low, join, four_digits}
 
-abbrev pub AllPlain : List ℕ → Type 0
-AllPlain [] = Unit {0}
-AllPlain (b ∷ bs) = (is_plain b ≡ true) × AllPlain bs
+-- characters that stand for themselves (RFC 8259, section 7: unescaped)
+pub data Unescaped : List ℕ → Type 0 where
+  none : Unescaped []
+  one : (c : ℕ) (w : List ℕ) → is_plain c ≡ true → Unescaped w → Unescaped (c ∷ w)
+  wide : (s w : List ℕ) → IsWide s → Unescaped w → Unescaped (s ++ w)
 
 -- the bytes past the first of a character of several bytes, and the bounds of the first of these
 abbrev pub lead : ℕ → Option Tail

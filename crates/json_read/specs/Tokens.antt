@@ -1,21 +1,28 @@
 -- What may be taken of the bytes at once: as much as the machine takes byte by byte.
-use Rattle.std.specs.Prelude.{◌≡◌, ◌≢◌, ◌≤◌, ◌<◌, ◌+◌, ℕ, true, false, List, [], ◌∷◌, length, take, Option, Some, None, Result, Ok, Err}
+use Rattle.std.specs.Prelude.{◌≡◌, ◌≢◌, ◌≤◌, ◌<◌, ◌+◌, ℕ, true, false, List, [], ◌∷◌, ◌++◌, length, take, Option, Some, None, Result, Ok, Err}
 use Rattle.json_value.specs.declared.fault.JsonFault.{JsonFault}
 use Rattle.json_value.specs.declared.fault.JsonFault.TheVariants as faults
 use Rattle.json_read.specs.declared.number.Digit.{Digit}
 use Rattle.json_read.specs.declared.string.Part.{Part}
-use Rattle.json_read.specs.declared.string.Part.TheVariants as p
+use Rattle.json_read.specs.declared.refusal.Refusal.{Refusal}
+use Rattle.json_read.specs.declared.reader.text.Read.{Read}
+use Rattle.json_read.specs.declared.reader.text.Read.TheVariants as r
 use Rattle.json_read.specs.declared.string.Progress.TheVariants as s
 use Rattle.json_value.specs.Grammar.{strict, is_blank, IsSpace}
 use Rattle.json_read.specs.Numbers.{number_next}
-use Rattle.json_read.specs.Scan.{scan}
+use Rattle.json_read.specs.Scan.{Scanned, scan}
 use Rattle.exact_read.specs.Steps.{run}
-use Rattle.json_read.specs.Machine.{State, step, whole}
+use Rattle.json_read.specs.Machine.{State, step, whole, placed}
 
 -- from the old state, at this place, so many of the bytes lead to the new one; or reading ends with this fault
+abbrev pub Reaches : List ℕ → ℕ → State → Result ℕ JsonFault → State → Type 0
+Reaches bytes at old (Ok n) new = (n ≤ length bytes) × (run (step strict) (take n bytes) at old ≡ Ok new)
+Reaches bytes at old (Err fault) new = fault ≢ faults.Memory → whole (run (step strict) bytes at old) ≡ Err fault
+
+-- and so at least one byte, where there is one
 abbrev pub Takes : List ℕ → ℕ → State → Result ℕ JsonFault → State → Type 0
 Takes bytes at old (Ok n) new = (n ≤ length bytes) × (0 < length bytes → 0 < n) × (run (step strict) (take n bytes) at old ≡ Ok new)
-Takes bytes at old (Err fault) new = fault ≢ faults.Memory → whole (run (step strict) bytes at old) ≡ Err fault
+Takes bytes at old (Err fault) new = Reaches bytes at old (Err fault) new
 
 -- each byte goes on with the number
 abbrev pub Follows : Digit → List ℕ → Digit → Type 0
@@ -27,11 +34,27 @@ abbrev pub Stops : Digit → List ℕ → Type 0
 Stops part [] = Unit {0}
 Stops part (b ∷ bs) = number_next part b ≡ None
 
--- the bytes lead from one text in a string to another
-abbrev pub Writes : ℕ → Part → List ℕ → List ℕ → Part → List ℕ → Type 0
-Writes at part text [] last made = (part ≡ last) × (text ≡ made)
-Writes at part text (b ∷ bs) last made = (next : Part) × (more : List ℕ) × (scan false at part text b ≡ Ok (s.More next more)) × Writes (at + 1) next more bs last made
+-- what reading on in a string comes to: all bytes are read, or the closing quote stands at this place before these bytes, or a byte is refused
+pub data Reading : Type 0 where
+  Open : Part → List ℕ → Reading
+  Closed : List ℕ → List ℕ → ℕ → Reading
+  Failed : Refusal → ℕ → Reading
 
--- so many of the bytes spell whole characters, which the text ends with
-abbrev pub Spells : List ℕ → List ℕ → ℕ → List ℕ → Type 0
-Spells bytes text n made = (n ≤ length bytes) × ((at : ℕ) → Writes at p.Plain text (take n bytes) p.Plain made)
+abbrev pub reading_by : Scanned → ℕ → List ℕ → (Part → List ℕ → Reading) → Reading
+reading_by (Ok (s.More part text)) at bs onward = onward part text
+reading_by (Ok (s.Done text)) at bs onward = Closed text bs at
+reading_by (Err why) at bs onward = Failed why at
+
+unfoldable pub reading : List ℕ → ℕ → Part → List ℕ → Reading
+reading [] at part text = Open part text
+reading (b ∷ bs) at part text = reading_by (scan false at part text b) at bs (reading bs (at + 1))
+
+-- what a function that reads on in a string ensures, unless memory fails
+abbrev pub ReadsOn : List ℕ → ℕ → Part → List ℕ → Result Read JsonFault → Type 0
+ReadsOn bytes at part text (Ok (r.Open last made)) = reading bytes at part text ≡ Open last made
+ReadsOn bytes at part text (Ok (r.Closed made n)) = (n < length bytes) × (reading (take (n + 1) bytes) at part text ≡ Closed made [] (at + n))
+ReadsOn bytes at part text (Err fault) = fault ≢ faults.Memory → (why : Refusal) × (q : ℕ) × (reading bytes at part text ≡ Failed why q) × (fault ≡ placed why q)
+
+-- so many plain characters are taken, where they may stand
+abbrev pub PlainOn : Part → List ℕ → List ℕ → ℕ → List ℕ → Type 0
+PlainOn part text bytes n made = (n ≤ length bytes) × ((w : List ℕ) (at : ℕ) → reading (take n bytes ++ w) at part text ≡ reading w (at + n) part made)

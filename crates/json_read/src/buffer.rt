@@ -29,6 +29,15 @@ impl Buffer {
         }
     }
 
+    /// No bytes, and room for so many.
+    pub fn with_room(alloc: Global, room: usize) -> Result<Buffer, AllocError>
+        ensures { IfOk result (λ b. b ≡ []) }
+    {
+        Ok(Buffer {
+            inner: Vec::with_capacity(alloc, room)?,
+        })
+    }
+
     /// A copy of the bytes.
     pub fn of(alloc: Global, bytes: &[u8]) -> Result<Buffer, AllocError>
         ensures { IfOk result (λ b. b ≡ bytes.now) }
@@ -64,9 +73,7 @@ impl Buffer {
         ensures { result ≡ self }
     {
         let Buffer { inner } = self;
-        match String::from_utf8(inner) {
-            Ok(text) => Text::from_string(text),
-            Err(_) => unreachable!(),
-        }
+        // What the clause requires is proved, so that the bytes need not be looked at again.
+        Text::from_string(unsafe { String::from_utf8_unchecked(inner) })
     }
 }

@@ -1,4 +1,4 @@
-ghost use Rattle.std.specs.Prelude.{◌≡◌, [], ◌∷◌, ◌++◌, ◌<◌, length, slice_index, IfOk, IfErr, MatchResult, Ok, true, false, ℕ, take, ◌≤◌};
+ghost use Rattle.std.specs.Prelude.{◌≡◌, [], ◌∷◌, ◌++◌, ◌<◌, length, slice_index, IfOk, IfErr, MatchResult, true, false, ℕ};
 ghost use Rattle.json_read.specs.Machine as spec;
 ghost use Rattle.json_value.specs.Grammar as grammar;
 ghost use Rattle.json_value.specs.Grammar.{IsText, strict};
@@ -8,17 +8,17 @@ ghost use Rattle.json_read.specs.Left.{HoldsText};
 ghost use Rattle.json_read.specs.declared.reader.Mode.TheVariants as modes;
 ghost use Rattle.json_read.specs.Scan as strings;
 ghost use Rattle.json_read.specs.Numbers as numbers;
-ghost use Rattle.exact_read.specs.Steps.{run};
 ghost use Rattle.json_value.specs.declared.fault.JsonFault.TheVariants as faults;
 ghost use Rattle.json_read.specs.declared.reader.Frame.TheVariants.{List, Member};
 
+mod text;
 mod tokens;
 
 use crate::buffer::Buffer;
 use crate::number::{Digit, may_end, number_next, number_start};
 use crate::open_members::Members;
 use crate::refusal::Refusal;
-use crate::string::{Part, Progress, plain_length, scan};
+use crate::string::{Part, Progress, scan};
 use flow_base::Text;
 use json_value::{Json, JsonFault};
 use sqlite_items::Items;
@@ -373,27 +373,6 @@ impl Reader {
                 at, members, place, part, text, byte,
             ),
             Mode::Colon(members, name) => self.colon(members, name, byte),
-        }
-    }
-
-    /// Takes the characters of a string that stand for themselves at once, and says how many.
-    fn take_plain(&mut self, rest: &[u8]) -> Result<usize, JsonFault>
-        ensures within { IfOk result (λ n. n ≤ length rest.now) }
-        ensures runs { IfOk result (λ n. (at : ℕ) → run (spec.step strict) (take n rest.now) at (state_of self.old) ≡ Ok (state_of self.new)) }
-        ensures memory { IfErr result (λ e. e ≡ faults.Memory) }
-    {
-        match &mut self.mode {
-            Mode::Str(Part::Plain, text) => {
-                let n = plain_length(rest);
-                text.append(&rest[..n])?;
-                Ok(n)
-            }
-            Mode::Naming(_, _, Part::Plain, text) => {
-                let n = plain_length(rest);
-                text.append(&rest[..n])?;
-                Ok(n)
-            }
-            _ => Ok(0),
         }
     }
 

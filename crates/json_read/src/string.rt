@@ -1,10 +1,10 @@
 //! One byte of a string.
 
-ghost use Rattle.std.specs.Prelude.{◌≡◌, ◌++◌, ◌<◌, ◌≤◌, ◌∷◌, [], encode_utf8, IfSome, false, ℕ, length, take};
+ghost use Rattle.std.specs.Prelude.{◌≡◌, ◌++◌, ◌<◌, ◌≤◌, ◌∷◌, [], encode_utf8, IfSome, Some, false, ◌+◌, ℕ, length, take};
 ghost use Rattle.json_read.specs.Scan as spec;
 ghost use Rattle.json_read.specs.Scan.{Scans};
 ghost use Rattle.json_value.specs.Strings as strings;
-ghost use Rattle.json_read.specs.Scan.{AllPlain};
+ghost use Rattle.json_read.specs.Scan.{Unescaped};
 ghost use Rattle.json_read.specs.declared.string.Grown.TheVariants.{Whole};
 
 use crate::buffer::Buffer;
@@ -86,19 +86,6 @@ fn is_plain(byte: u8) -> bool
     byte >= 32 && byte <= 127 && byte != b'"' && byte != b'\\'
 }
 
-/// How many characters that stand for themselves the bytes begin with.
-pub fn plain_length(bytes: &[u8]) -> usize
-    ensures within { result ≤ length bytes.now }
-    ensures plain { AllPlain (take result bytes.now) }
-{
-    for i in 0..bytes.len() {
-        if !is_plain(bytes[i]) {
-            return i;
-        }
-    }
-    bytes.len()
-}
-
 fn lead(byte: u8) -> Option<Tail>
     ensures { result ≡ spec.lead byte }
 {
@@ -112,6 +99,66 @@ fn lead(byte: u8) -> Option<Tail>
         244 => Some(Tail::Three(128, 143)),
         _ => None,
     }
+}
+
+fn is_within(low: u8, high: u8, byte: u8) -> bool
+    ensures { result ≡ strings.within low high byte }
+{
+    low <= byte && byte <= high
+}
+
+fn is_tail(byte: u8) -> bool
+    ensures { result ≡ strings.is_tail byte }
+{
+    is_within(128, 191, byte)
+}
+
+/// The length of the character that the bytes begin with, or 0 where it is not whole.
+#[tactic(auto, using(crate::proofs::PlainRuns::nothing_unescaped))]
+fn wide_length(first: u8, tail: Tail, rest: &[u8]) -> usize
+    requires { spec.lead first ≡ Some tail }
+    ensures within { result ≤ length rest.now + 1 }
+    ensures unescaped { Unescaped (take result (first ∷ rest.now)) }
+{
+    match (tail, rest) {
+        (Tail::One(low, high), [b, ..]) if is_within(low, high, *b) => 2,
+        (Tail::Two(low, high), [b, c, ..]) if is_within(low, high, *b) && is_tail(*c) => 3,
+        (Tail::Three(low, high), [b, c, d, ..])
+            if is_within(low, high, *b) && is_tail(*c) && is_tail(*d) => { 4 }
+        _ => 0,
+    }
+}
+
+/// The length of the character that stands for itself and that the bytes begin with, or 0 where there is none.
+#[tactic(auto, using(crate::proofs::PlainRuns::nothing_unescaped))]
+fn char_length(bytes: &[u8]) -> usize
+    ensures within { result ≤ length bytes.now }
+    ensures unescaped { Unescaped (take result bytes.now) }
+{
+    match bytes {
+        [] => 0,
+        [byte, ..] if is_plain(*byte) => 1,
+        [byte, rest @ ..] => match lead(*byte) {
+            Some(tail) => wide_length(*byte, tail, rest),
+            None => 0,
+        },
+    }
+}
+
+/// How many bytes of characters that stand for themselves the bytes begin with.
+pub fn plain_length(bytes: &[u8]) -> usize
+    ensures within { result ≤ length bytes.now }
+    ensures unescaped { Unescaped (take result bytes.now) }
+{
+    let mut i = 0;
+    while i < bytes.len() {
+        let n = char_length(&bytes[i..]);
+        if n == 0 {
+            return i;
+        }
+        i += n;
+    }
+    i
 }
 
 fn with(mut text: Buffer, byte: u8, part: Part) -> Result<Progress, Refusal>

@@ -4,13 +4,15 @@ ghost use Rattle.std.specs.Prelude.{◌≡◌, [], ◌∷◌, ◌++◌, ◌<◌,
 ghost use Rattle.json_value.specs.Grammar.{IsSpace};
 ghost use Rattle.json_read.specs.Left.{HoldsText};
 ghost use Rattle.json_read.specs.View.{state_of, frames_of};
-ghost use Rattle.json_read.specs.Tokens.{Takes, Follows, Stops};
-ghost use Rattle.json_read.specs.Scan.{AllPlain};
+ghost use Rattle.json_read.specs.Tokens.{Takes, Reaches, Follows, Stops};
+ghost use Rattle.json_read.specs.Scan.{Unescaped};
 ghost use Rattle.json_read.specs.Numbers.{number_start};
+ghost use Rattle.json_read.specs.Machine.{letters};
 ghost use Rattle.json_read.specs.declared.reader.Frame.TheVariants.{Member};
 ghost use Rattle.json_read.specs.declared.reader.Mode.TheVariants as modes;
 
-use super::{Frame, Mode, Reader, is_blank, placed};
+use super::text::{Read, read_on};
+use super::{Frame, Mode, Reader, Word, is_blank, letters, meant, placed};
 use crate::buffer::Buffer;
 use crate::number::{Digit, may_end, number_next, number_start};
 use crate::open_members::Members;
@@ -53,13 +55,14 @@ fn number_run(start: Digit, bytes: &[u8]) -> (usize, Digit)
 fn number_text(alloc: Global, byte: u8, run: &[u8]) -> Result<Buffer, AllocError>
     ensures { IfOk result (λ text. text ≡ byte ∷ run.now) }
 {
-    let mut text = Buffer::of(alloc, &[byte])?;
+    let mut text = Buffer::with_room(alloc, run.len().saturating_add(1))?;
+    text.push(byte)?;
     text.append(run)?;
     Ok(text)
 }
 
 fn plain_text(alloc: Global, bytes: &[u8]) -> Result<Text, AllocError>
-    requires { AllPlain bytes.now }
+    requires { Unescaped bytes.now }
     ensures { IfOk result (λ text. text ≡ bytes.now) }
 {
     let text = Buffer::of(alloc, bytes)?;
@@ -69,7 +72,7 @@ fn plain_text(alloc: Global, bytes: &[u8]) -> Result<Text, AllocError>
 /// The length of a name of plain characters that the bytes begin with, before its closing quote and a colon.
 fn plain_name(bytes: &[u8]) -> Option<usize>
     ensures within { IfSome result (λ n. n + 2 ≤ length bytes.now) }
-    ensures plain { IfSome result (λ n. AllPlain (take n bytes.now)) }
+    ensures plain { IfSome result (λ n. Unescaped (take n bytes.now)) }
     ensures ends { IfSome result (λ n. take (n + 2) bytes.now ≡ take n bytes.now ++ (34 ∷ (58 ∷ []))) }
 {
     let n = plain_length(bytes);
@@ -80,6 +83,7 @@ fn plain_name(bytes: &[u8]) -> Option<usize>
 }
 
 impl Reader {
+    /// One byte.
     fn take_byte(&mut self, at: usize, byte: u8, tail: &[u8]) -> Result<usize, JsonFault>
         requires { HoldsText (state_of self.old).mode }
         ensures { Takes (byte ∷ tail.now) at (state_of self.old) result (state_of self.new) }
@@ -87,10 +91,7 @@ impl Reader {
         if let Err(refusal) = self.step(at as u64, byte) {
             return Err(placed(refusal, at as u64));
         }
-        match self.take_plain(tail) {
-            Ok(n) => Ok(1 + n),
-            Err(_) => Err(JsonFault::Memory),
-        }
+        Ok(1)
     }
 
     fn after_byte(
@@ -108,8 +109,63 @@ impl Reader {
         }
     }
 
-    /// After a member's value, a comma and a quote.
-    fn named_next(
+    /// At a name, after its opening quote: the name, its colon and white space.
+    fn take_name(
+        &mut self,
+        members: Members,
+        at: usize,
+        n: usize,
+        tail: &[u8],
+    ) -> Result<usize, JsonFault>
+        requires place { at + length tail.now + 1 < 2 ^ 64 }
+        requires within { n + 2 ≤ length tail.now }
+        requires plain { Unescaped (take n tail.now) }
+        requires ends { take (n + 2) tail.now ≡ take n tail.now ++ (34 ∷ (58 ∷ [])) }
+        ensures goes { Reaches (34 ∷ tail.now) at (record { mode = modes.NextName members; frames = frames_of self.old }) result (state_of self.new) }
+        ensures some { IfOk result (λ k. 0 < k) }
+    {
+        let name = plain_text(self.alloc, &tail[..n])?;
+        if members.has(&name) {
+            return Err(JsonFault::Twice(at as u64));
+        }
+        self.frames.push(Frame::Member(members, name))?;
+        self.mode = Mode::Value;
+        Ok(n + 3 + blank_length(&tail[n + 2..]))
+    }
+
+    /// At the next name, where it stands whole.
+    fn name_at(&mut self, members: Members, at: usize, bytes: &[u8]) -> Result<usize, JsonFault>
+        requires { at + length bytes.now < 2 ^ 64 }
+        ensures { Reaches bytes.now at (record { mode = modes.NextName members; frames = frames_of self.old }) result (state_of self.new) }
+    {
+        if let [b'"', tail @ ..] = bytes {
+            if let Some(n) = plain_name(tail) {
+                return self.take_name(members, at, n, tail);
+            }
+        }
+        self.mode = Mode::NextName(members);
+        Ok(0)
+    }
+
+    /// At the next name, or white space before it.
+    fn next_name_read(
+        &mut self,
+        members: Members,
+        at: usize,
+        bytes: &[u8],
+    ) -> Result<usize, JsonFault>
+        requires { at + length bytes.now < 2 ^ 64 }
+        ensures { Reaches bytes.now at (record { mode = modes.NextName members; frames = frames_of self.old }) result (state_of self.new) }
+    {
+        let b = blank_length(bytes);
+        match self.name_at(members, at + b, &bytes[b..]) {
+            Ok(k) => Ok(b + k),
+            Err(fault) => Err(fault),
+        }
+    }
+
+    /// After a member's value, a comma.
+    fn member_comma(
         &mut self,
         members: Members,
         name: Text,
@@ -117,37 +173,30 @@ impl Reader {
         at: usize,
         bytes: &[u8],
     ) -> Result<usize, JsonFault>
-        requires { at + length bytes.now < 2 ^ 64 }
-        ensures { Takes (44 ∷ (34 ∷ bytes.now)) at (record { mode = modes.After value; frames = Member members name ∷ frames_of self.old }) result (state_of self.new) }
+        requires { at + length bytes.now + 1 < 2 ^ 64 }
+        ensures { Takes (44 ∷ bytes.now) at (record { mode = modes.After value; frames = Member members name ∷ frames_of self.old }) result (state_of self.new) }
     {
-        let Some(n) = plain_name(bytes) else {
-            return match self.after_member(members, name, value, b',') {
-                Ok(()) => Ok(1),
-                Err(refusal) => Err(placed(refusal, at as u64)),
-            };
-        };
-        let next = plain_text(self.alloc, &bytes[..n])?;
         let members = members.with(name, value)?;
-        if members.has(&next) {
-            return Err(JsonFault::Twice((at + 1) as u64));
+        match self.next_name_read(members, at + 1, bytes) {
+            Ok(k) => Ok(1 + k),
+            Err(fault) => Err(fault),
         }
-        self.frames.push(Frame::Member(members, next))?;
-        self.mode = Mode::Value;
-        Ok(n + 4)
     }
 
-    /// After a value, a comma and a quote.
+    /// After a value, a comma.
     fn comma(&mut self, value: Json, at: usize, bytes: &[u8]) -> Result<usize, JsonFault>
-        requires { at + length bytes.now < 2 ^ 64 }
-        ensures { Takes (44 ∷ (34 ∷ bytes.now)) at (record { mode = modes.After value; frames = frames_of self.old }) result (state_of self.new) }
+        requires { at + length bytes.now + 1 < 2 ^ 64 }
+        ensures { Takes (44 ∷ bytes.now) at (record { mode = modes.After value; frames = frames_of self.old }) result (state_of self.new) }
     {
         match self.frames.pop() {
             None => Err(JsonFault::Syntax(at as u64)),
             Some(Frame::List(items)) => match self.after_item(items, value, b',') {
-                Ok(()) => Ok(1),
+                Ok(()) => Ok(1 + blank_length(bytes)),
                 Err(refusal) => Err(placed(refusal, at as u64)),
             },
-            Some(Frame::Member(members, name)) => self.named_next(members, name, value, at, bytes),
+            Some(Frame::Member(members, name)) => self.member_comma(
+                members, name, value, at, bytes,
+            ),
         }
     }
 
@@ -161,7 +210,7 @@ impl Reader {
                 self.mode = Mode::After(value);
                 Ok(0)
             }
-            [b',', b'"', after @ ..] => self.comma(value, at, after),
+            [b',', after @ ..] => self.comma(value, at, after),
             [byte, tail @ ..] => self.after_byte(value, at, *byte, tail),
         }
     }
@@ -212,6 +261,33 @@ impl Reader {
         }
     }
 
+    /// At a value, after this word.
+    fn word_read(&mut self, word: Word, at: usize, after: &[u8]) -> Result<usize, JsonFault>
+        requires place { at + length (letters word) + length after.now < 2 ^ 64 }
+        requires mode { self.old.mode ≡ modes.Value }
+        ensures { Takes (letters word ++ after.now) at (state_of self.old) result (state_of self.new) }
+    {
+        let n = letters(word).len();
+        match self.value_read(meant(word), at + n, after) {
+            Ok(k) => Ok(n + k),
+            Err(fault) => Err(fault),
+        }
+    }
+
+    /// At a value that is neither a string nor a number.
+    fn take_word(&mut self, at: usize, byte: u8, tail: &[u8]) -> Result<usize, JsonFault>
+        requires place { at + length tail.now + 1 < 2 ^ 64 }
+        requires mode { self.old.mode ≡ modes.Value }
+        ensures { Takes (byte ∷ tail.now) at (state_of self.old) result (state_of self.new) }
+    {
+        match (byte, tail) {
+            (b'n', [b'u', b'l', b'l', after @ ..]) => self.word_read(Word::Null, at, after),
+            (b't', [b'r', b'u', b'e', after @ ..]) => self.word_read(Word::True, at, after),
+            (b'f', [b'a', b'l', b's', b'e', after @ ..]) => self.word_read(Word::False, at, after),
+            _ => self.take_byte(at, byte, tail),
+        }
+    }
+
     /// At a value.
     fn take_value(&mut self, at: usize, byte: u8, tail: &[u8]) -> Result<usize, JsonFault>
         requires place { at + length tail.now + 1 < 2 ^ 64 }
@@ -221,9 +297,12 @@ impl Reader {
         if byte == b'"' {
             return self.take_string(at, tail);
         }
+        if is_blank(byte) {
+            return Ok(1 + blank_length(tail));
+        }
         match number_start(byte) {
             Some(start) => self.take_number(at, byte, start, tail),
-            None => self.take_byte(at, byte, tail),
+            None => self.take_word(at, byte, tail),
         }
     }
 
@@ -233,7 +312,10 @@ impl Reader {
         requires mode { self.old.mode ≡ modes.First }
         ensures { Takes (byte ∷ tail.now) at (state_of self.old) result (state_of self.new) }
     {
-        if is_blank(byte) || byte == b']' {
+        if is_blank(byte) {
+            return Ok(1 + blank_length(tail));
+        }
+        if byte == b']' {
             return self.take_byte(at, byte, tail);
         }
         self.frames.push(Frame::List(Items::new(self.alloc)))?;
@@ -243,34 +325,64 @@ impl Reader {
 
     /// At the first name of an object, or the bracket that closes it.
     fn take_first_name(&mut self, at: usize, byte: u8, tail: &[u8]) -> Result<usize, JsonFault>
-        requires { self.old.mode ≡ modes.FirstName }
+        requires place { at + length tail.now + 1 < 2 ^ 64 }
+        requires mode { self.old.mode ≡ modes.FirstName }
         ensures { Takes (byte ∷ tail.now) at (state_of self.old) result (state_of self.new) }
     {
-        if byte != b'"' {
-            return self.take_byte(at, byte, tail);
+        if is_blank(byte) {
+            return Ok(1 + blank_length(tail));
         }
-        match plain_name(tail) {
-            None => self.take_byte(at, byte, tail),
-            Some(n) => {
-                let name = plain_text(self.alloc, &tail[..n])?;
-                self.frames
-                    .push(Frame::Member(Members::new(self.alloc), name))?;
-                self.mode = Mode::Value;
-                Ok(n + 3)
+        if byte == b'"' {
+            if let Some(n) = plain_name(tail) {
+                return self.take_name(Members::new(self.alloc), at, n, tail);
+            }
+        }
+        self.take_byte(at, byte, tail)
+    }
+
+    /// In a string.
+    fn take_str(
+        &mut self,
+        at: usize,
+        part: Part,
+        text: Buffer,
+        bytes: &[u8],
+    ) -> Result<usize, JsonFault>
+        requires place { at + length bytes.now < 2 ^ 64 }
+        requires holds { HoldsText (modes.Str part text) }
+        ensures { Takes bytes.now at (record { mode = modes.Str part text; frames = frames_of self.old }) result (state_of self.new) }
+    {
+        match read_on(at, part, text, bytes) {
+            Err(fault) => Err(fault),
+            Ok(Read::Open(part, text)) => {
+                self.mode = Mode::Str(part, text);
+                Ok(bytes.len())
+            }
+            Ok(Read::Closed(text, n)) => {
+                match self.value_read(Json::Str(text.into_text()), at + (n + 1), &bytes[n + 1..]) {
+                    Ok(k) => Ok(n + 1 + k),
+                    Err(fault) => Err(fault),
+                }
             }
         }
     }
 
-    fn take_from(&mut self, at: usize, byte: u8, tail: &[u8]) -> Result<usize, JsonFault>
-        requires place { at + length tail.now + 1 < 2 ^ 64 }
+    /// In anything but at a value, a first item or a first name.
+    fn take_held(&mut self, at: usize, bytes: &[u8]) -> Result<usize, JsonFault>
+        requires place { at + length bytes.now < 2 ^ 64 }
         requires holds { HoldsText (state_of self.old).mode }
-        ensures { Takes (byte ∷ tail.now) at (state_of self.old) result (state_of self.new) }
+        ensures { Takes bytes.now at (state_of self.old) result (state_of self.new) }
     {
-        match &self.mode {
-            Mode::Value => self.take_value(at, byte, tail),
-            Mode::First => self.take_first(at, byte, tail),
-            Mode::FirstName => self.take_first_name(at, byte, tail),
-            _ => self.take_byte(at, byte, tail),
+        match bytes {
+            [] => Ok(0),
+            [byte, tail @ ..] => match mem::replace(&mut self.mode, Mode::Value) {
+                Mode::Str(part, text) => self.take_str(at, part, text, bytes),
+                Mode::After(value) => self.value_read(value, at, bytes),
+                mode => {
+                    self.mode = mode;
+                    self.take_byte(at, *byte, tail)
+                }
+            },
         }
     }
 
@@ -282,7 +394,12 @@ impl Reader {
     {
         match bytes {
             [] => Ok(0),
-            [byte, tail @ ..] => self.take_from(at, *byte, tail),
+            [byte, tail @ ..] => match &self.mode {
+                Mode::Value => self.take_value(at, *byte, tail),
+                Mode::First => self.take_first(at, *byte, tail),
+                Mode::FirstName => self.take_first_name(at, *byte, tail),
+                _ => self.take_held(at, bytes),
+            },
         }
     }
 }

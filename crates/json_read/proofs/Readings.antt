@@ -1,0 +1,138 @@
+-- Reading on in a string goes as the machine runs.
+use Rattle.std.proofs.Common.{◌≡◌, ◌≢◌, ℕ, zero, suc, ◌+◌, ◌<◌, ◌≤◌, false, List, [], ◌∷◌, ◌++◌, length, take, drop, get_or, add-one, Result, Ok, Err, refl, sym, ap, subst, ◌∙◌, arith, append_assoc}
+use Rattle.std.specs.Prelude.{◌-◌, IsUtf8}
+use Rattle.std.proofs.lemmas.List.{append-nil, take-append-drop, length-take-le, length-drop}
+use Rattle.std.proofs.Math.Seq.{take-add, take-suc, drop-cons, take-length}
+use Rattle.json_value.specs.declared.tree.Json.TheVariants as j
+use Rattle.json_read.specs.declared.refusal.Refusal.{Refusal}
+use Rattle.json_read.specs.declared.refusal.Refusal.TheVariants as e
+use Rattle.json_value.specs.declared.fault.JsonFault.{JsonFault}
+use Rattle.json_value.specs.declared.fault.JsonFault.TheVariants as faults
+use Rattle.json_read.specs.declared.reader.Mode.TheVariants as m
+use Rattle.json_read.specs.declared.string.Part.{Part}
+use Rattle.json_read.specs.declared.string.Part.TheVariants as p
+use Rattle.json_read.specs.declared.string.Progress.TheVariants as s
+use Rattle.json_value.specs.Grammar.{strict}
+use Rattle.json_read.specs.Left.{TextLeft}
+use Rattle.json_read.specs.Scan.{Scanned, Unescaped, scan}
+use Rattle.exact_read.specs.Steps.{run, on_step}
+use Rattle.json_read.specs.Machine.{State, Frames, step, str_by, placed, whole}
+use Rattle.json_read.specs.Tokens.{Takes, Reading, Open, Closed, Failed, reading_by, reading, ReadsOn, PlainOn}
+use Rattle.json_read.specs.declared.reader.text.Read.{Read}
+use Rattle.json_read.specs.declared.reader.text.Read.TheVariants as r
+use Rattle.json_read.proofs.PlainRuns.{str_after, str_run, one_scan, unescaped_reading, rest_is}
+use Rattle.json_read.proofs.Utf8.{more_holds, done_holds}
+use Rattle.json_read.proofs.Taken.{then_ok, then_err}
+
+pub plain_on : (part : Part) (text made bytes : List ℕ) (n : ℕ) → part ≡ p.Plain → n ≤ length bytes → Unescaped (take n bytes) → made ≡ text ++ take n bytes → PlainOn part text bytes n made
+plain_on part text made bytes n is le all same = (le, λ w at. at_plain w at)
+  where
+    at_plain : (w : List ℕ) (at : ℕ) → reading (take n bytes ++ w) at part text ≡ reading w (at + n) part made
+    at_plain w at =
+        ap (λ (k : Part). reading (take n bytes ++ w) at k text) is
+        ∙ (unescaped_reading (take n bytes) w at (at + n) text all (ap (λ (q : ℕ). at + q) (sym (length-take-le n bytes le)))
+        ∙ (ap (λ (k : Part). reading w (at + n) k (text ++ take n bytes)) (sym is) ∙ ap (λ (k : List ℕ). reading w (at + n) part k) (sym same)))
+
+pub nothing_on : (part : Part) (text bytes : List ℕ) → PlainOn part text bytes 0 text
+nothing_on part text bytes = (omega arith, λ w at. ap (λ (q : ℕ). reading w q part text) (let x : at ≡ at + 0 = omega arith in x))
+
+-- what was read so far, whatever follows
+pub So_far : List ℕ → ℕ → ℕ → Part → List ℕ → Part → List ℕ → Type 0
+So_far bytes at i first given part text = (w : List ℕ) → reading (take i bytes ++ w) at first given ≡ reading w (at + i) part text
+
+pub begun : (bytes : List ℕ) (at : ℕ) (part : Part) (text : List ℕ) → So_far bytes at 0 part text part text
+unfolding So_far
+begun bytes at part text = λ w. ap (λ (q : ℕ). reading w q part text) (let x : at ≡ at + 0 = omega arith in x)
+
+here : (bytes : List ℕ) (i : ℕ) → i < length bytes → take (i + 1) bytes ≡ take i bytes ++ (get_or bytes i 0 ∷ [])
+here bytes i lt = rw add-one (take-suc bytes i 0 lt)
+
+pub on_more : (bytes : List ℕ) (at i n : ℕ) (first part next : Part) (given text more made : List ℕ) → i < length bytes → So_far bytes at i first given part text → scan false (at + i) part text (get_or bytes i 0) ≡ Ok (s.More next more)
+    → PlainOn next more (take (length bytes - (i + 1)) (drop (i + 1) bytes)) n made → (i + (1 + n) ≤ length bytes) × So_far bytes at (i + (1 + n)) first given next made
+unfolding So_far
+on_more bytes at i n first part next given text more made lt so_far scanned plain =
+    let rest : take (length bytes - (i + 1)) (drop (i + 1) bytes) ≡ drop (i + 1) bytes = rest_is (i + 1) bytes (omega arith) in
+    let le : n ≤ length (drop (i + 1) bytes) = subst (λ (q : List ℕ). n ≤ length q) rest plain.0 in
+    (omega (arith, le, length-drop (i + 1) bytes), λ w. go w)
+  where
+    go : (w : List ℕ) → reading (take (i + (1 + n)) bytes ++ w) at first given ≡ reading w (at + (i + (1 + n))) next made
+    go w =
+        let rest : take (length bytes - (i + 1)) (drop (i + 1) bytes) ≡ drop (i + 1) bytes = rest_is (i + 1) bytes (omega arith) in
+        let b : ℕ = get_or bytes i 0 in
+        let ts : List ℕ = take n (drop (i + 1) bytes) in
+        let cut : take (i + (1 + n)) bytes ++ w ≡ take i bytes ++ (get_or bytes i 0 ∷ (take n (drop (i + 1) bytes) ++ w)) =
+        ap (λ (q : ℕ). take q bytes ++ w) (let x : i + (1 + n) ≡ i + 1 + n = omega arith in x)
+        ∙ (ap (λ (q : List ℕ). q ++ w) (take-add (i + 1) n bytes)
+        ∙ (ap (λ (q : List ℕ). (q ++ take n (drop (i + 1) bytes)) ++ w) (here bytes i lt)
+        ∙ (append_assoc (take i bytes ++ (get_or bytes i 0 ∷ [])) (take n (drop (i + 1) bytes)) w ∙ append_assoc (take i bytes) (get_or bytes i 0 ∷ []) (take n (drop (i + 1) bytes) ++ w)))) in
+        ap (λ (q : List ℕ). reading q at first given) cut
+        ∙ (so_far (get_or bytes i 0 ∷ (take n (drop (i + 1) bytes) ++ w))
+        ∙ (one_scan (get_or bytes i 0) (at + i) (take n (drop (i + 1) bytes) ++ w) part text (Ok (s.More next more)) scanned
+        ∙ (ap (λ (q : List ℕ). reading (take n q ++ w) (at + i + 1) next more) (sym rest)
+        ∙ (plain.1 w (at + i + 1) ∙ ap (λ (q : ℕ). reading w q next made) (let x : at + i + 1 + n ≡ at + (i + (1 + n)) = omega arith in x)))))
+
+pub on_done : (bytes : List ℕ) (at i : ℕ) (first part : Part) (given text made : List ℕ) → i < length bytes → So_far bytes at i first given part text → scan false (at + i) part text (get_or bytes i 0) ≡ Ok (s.Done made)
+    → (i < length bytes) × (reading (take (i + 1) bytes) at first given ≡ Closed made [] (at + i))
+unfolding So_far
+on_done bytes at i first part given text made lt so_far scanned =
+    (lt, ap (λ (q : List ℕ). reading q at first given) (here bytes i lt) ∙ (so_far (get_or bytes i 0 ∷ []) ∙ one_scan (get_or bytes i 0) (at + i) [] part text (Ok (s.Done made)) scanned))
+
+pub on_fault : (bytes : List ℕ) (at i : ℕ) (first part : Part) (given text : List ℕ) (why : Refusal) (fault : JsonFault) → i < length bytes → So_far bytes at i first given part text
+    → (why ≢ e.Memory → scan false (at + i) part text (get_or bytes i 0) ≡ Err why) → fault ≡ placed why (at + i) → ReadsOn bytes at first given (Err fault)
+unfolding So_far
+on_fault bytes at i first part given text why fault lt so_far fails is = λ not.
+    let failed = fails (λ same. not (is ∙ ap (λ q. placed q (at + i)) same)) in
+    let cut : bytes ≡ take i bytes ++ (get_or bytes i 0 ∷ drop (suc i) bytes) = sym (take-append-drop i bytes) ∙ ap (λ (q : List ℕ). take i bytes ++ q) (drop-cons bytes i 0 lt) in
+    (why, at + i, ap (λ (q : List ℕ). reading q at first given) cut ∙ (so_far (get_or bytes i 0 ∷ drop (suc i) bytes) ∙ one_scan (get_or bytes i 0) (at + i) (drop (suc i) bytes) part text (Err why) failed), is)
+
+pub on_end : (bytes : List ℕ) (at i : ℕ) (first part : Part) (given text : List ℕ) → i ≤ length bytes → length bytes ≤ i → So_far bytes at i first given part text → reading bytes at first given ≡ Open part text
+unfolding So_far reading
+on_end bytes at i first part given text le ge so_far =
+    let all : take i bytes ++ [] ≡ bytes = append-nil (take i bytes) ∙ (ap (λ (q : ℕ). take q bytes) (let x : i ≡ length bytes = omega arith in x) ∙ take-length bytes) in
+    ap (λ (q : List ℕ). reading q at first given) (sym all) ∙ so_far []
+
+pub closed_utf8 : (bs : List ℕ) (at : ℕ) (part : Part) (text f rest : List ℕ) (q : ℕ) → ((w g : List ℕ) → TextLeft false part text w g → IsUtf8 g) → reading bs at part text ≡ Closed f rest q → IsUtf8 f
+unfolding reading
+closed_utf8 [] at part text f rest q holds is = absurd (cc)
+closed_utf8 (b ∷ bs) at part text f rest q holds is =
+    by_scan (λ next more on e. closed_utf8 bs (at + 1) next more f rest q on e) (scan false at part text b) refl is
+  where
+    by_scan : ((next : Part) (more : List ℕ) → ((w g : List ℕ) → TextLeft false next more w g → IsUtf8 g) → reading bs (at + 1) next more ≡ Closed f rest q → IsUtf8 f) → (o : Scanned) → scan false at part text b ≡ o → reading_by o at bs (reading bs (at + 1)) ≡ Closed f rest q → IsUtf8 f
+    by_scan tail (Ok (s.More next more)) same e = tail next more (more_holds at part next text more b holds same) e
+    by_scan tail (Ok (s.Done made)) same e = done_holds at part text f b holds (same ∙ ap (λ (k : List ℕ). Ok (s.Done k)) (let x : made ≡ f = cc in x))
+    by_scan tail (Err why) same e = absurd (cc)
+
+-- the machine at a string
+pub str_closed : (bytes : List ℕ) (at n k : ℕ) (part : Part) (text made : List ℕ) (fs : Frames) (z : State) → n < length bytes → reading (take (n + 1) bytes) at part text ≡ Closed made [] (at + n)
+    → Takes (take (length bytes - (n + 1)) (drop (n + 1) bytes)) (at + (n + 1)) (record { mode = m.After (j.Str made); frames = fs }) (Ok k) z → Takes bytes at (record { mode = m.Str part text; frames = fs }) (Ok (n + 1 + k)) z
+unfolding run str_after
+str_closed bytes at n k part text made fs z lt is next =
+    then_ok bytes _ (n + 1) k at _ (record { mode = m.After (j.Str made); frames = fs }) z (sym (rest_is (n + 1) bytes (omega arith))) (omega arith) (omega arith) (str_run (take (n + 1) bytes) at part text fs ∙ ap (str_after fs) is) next
+
+pub str_closed_err : (bytes : List ℕ) (at n : ℕ) (part : Part) (text made : List ℕ) (fs : Frames) (z z' : State) (fault : JsonFault) → n < length bytes → reading (take (n + 1) bytes) at part text ≡ Closed made [] (at + n)
+    → Takes (take (length bytes - (n + 1)) (drop (n + 1) bytes)) (at + (n + 1)) (record { mode = m.After (j.Str made); frames = fs }) (Err fault) z' → Takes bytes at (record { mode = m.Str part text; frames = fs }) (Err fault) z
+unfolding run str_after
+str_closed_err bytes at n part text made fs z z' fault lt is next =
+    then_err bytes _ (n + 1) at _ (record { mode = m.After (j.Str made); frames = fs }) z z' fault (sym (rest_is (n + 1) bytes (omega arith))) (omega arith) (str_run (take (n + 1) bytes) at part text fs ∙ ap (str_after fs) is) next
+
+pub str_open : (bytes : List ℕ) (at : ℕ) (part last : Part) (text made : List ℕ) (fs : Frames) → reading bytes at part text ≡ Open last made
+    → Takes bytes at (record { mode = m.Str part text; frames = fs }) (Ok (length bytes)) (record { mode = m.Str last made; frames = fs })
+unfolding str_after
+str_open bytes at part last text made fs is =
+    (omega arith, (λ some. some), ap (λ (w : List ℕ). run (step strict) w at (record { mode = m.Str part text; frames = fs })) (take-length bytes) ∙ (str_run bytes at part text fs ∙ ap (str_after fs) is))
+
+pub str_failed : (bytes : List ℕ) (at : ℕ) (part : Part) (text : List ℕ) (fs : Frames) (z : State) (fault : JsonFault) → ReadsOn bytes at part text (Err fault) → Takes bytes at (record { mode = m.Str part text; frames = fs }) (Err fault) z
+unfolding str_after
+str_failed bytes at part text fs z fault fails = λ not. go (fails not)
+  where
+    go : (why : Refusal) × (q : ℕ) × (reading bytes at part text ≡ Failed why q) × (fault ≡ placed why q) → whole (run (step strict) bytes at (record { mode = m.Str part text; frames = fs })) ≡ Err fault
+    go (why, q, is, same) = ap whole (str_run bytes at part text fs ∙ ap (str_after fs) is) ∙ ap (λ k. Err k) (sym same)
+
+pub closed_as : (bytes : List ℕ) (at n : ℕ) (part : Part) (text made made' : List ℕ) → made' ≡ made → reading (take (n + 1) bytes) at part text ≡ Closed made [] (at + n) → reading (take (n + 1) bytes) at part text ≡ Closed made' [] (at + n)
+closed_as bytes at n part text made made' same is = is ∙ ap (λ (k : List ℕ). Closed k [] (at + n)) (sym same)
+
+pub is_closed : (bytes : List ℕ) (at : ℕ) (part : Part) (text made : List ℕ) (n : ℕ) (k : Read) → k ≡ r.Closed made n → ReadsOn bytes at part text (Ok k) → (n < length bytes) × (reading (take (n + 1) bytes) at part text ≡ Closed made [] (at + n))
+is_closed bytes at part text made n k is reads = subst (λ (q : Read). ReadsOn bytes at part text (Ok q)) is reads
+
+pub is_open : (bytes : List ℕ) (at : ℕ) (part last : Part) (text made : List ℕ) (k : Read) → k ≡ r.Open last made → ReadsOn bytes at part text (Ok k) → reading bytes at part text ≡ Open last made
+is_open bytes at part last text made k is reads = subst (λ (q : Read). ReadsOn bytes at part text (Ok q)) is reads
