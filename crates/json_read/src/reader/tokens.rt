@@ -127,8 +127,9 @@ impl Reader {
             };
         };
         let next = plain_text(self.alloc, &bytes[..n])?;
-        let members = members.with(name, value)?;
-        if members.has(&next) {
+        let mut members = members.with(name, value)?;
+        let met = members.meets(&next)?;
+        if met {
             return Err(JsonFault::Twice((at + 1) as u64));
         }
         self.frames.push(Frame::Member(members, next))?;
