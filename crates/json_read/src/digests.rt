@@ -3,6 +3,9 @@
 ghost use Rattle.std.specs.Prelude.{◌≡◌, ◌≢◌, ◌+◌, ◌<◌, ◌≤◌, ℕ, length, drop, false, true, IfOk, IfSome, IsTrue};
 ghost use Rattle.json_read.specs.Slots.{digest_of, before, has_digest, Keeps};
 
+#[cfg(test)]
+mod tests;
+
 use flow_base::{Memory, Text};
 use std::alloc::Global;
 use std::hash::{FoldHasher, Hasher};
