@@ -1,7 +1,9 @@
+pub mod Covers
 pub mod Faults
 pub mod Left
 pub mod Machine
 pub mod Numbers
 pub mod Scan
+pub mod Slots
 pub mod Tokens
 pub mod View

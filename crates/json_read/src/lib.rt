@@ -2,6 +2,7 @@
 #![tactic(auto)]
 
 mod buffer;
+mod digests;
 mod laws;
 mod number;
 mod open_members;

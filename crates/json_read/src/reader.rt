@@ -311,7 +311,8 @@ impl Reader {
     fn named(&mut self, members: Members, place: u64, name: Text) -> Result<(), Refusal>
         ensures { spec.Steps (spec.named true (frames_of self.old) members place name) result (state_of self.new) }
     {
-        if members.has(&name) {
+        let mut members = members;
+        if members.meets(&name)? {
             return Err(Refusal::Twice(place));
         }
         self.mode = Mode::Colon(members, name);

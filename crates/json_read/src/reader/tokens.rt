@@ -125,7 +125,9 @@ impl Reader {
         ensures some { IfOk result (λ k. 0 < k) }
     {
         let name = plain_text(self.alloc, &tail[..n])?;
-        if members.has(&name) {
+        let mut members = members;
+        let met = members.meets(&name)?;
+        if met {
             return Err(JsonFault::Twice(at as u64));
         }
         self.frames.push(Frame::Member(members, name))?;

@@ -1,5 +1,11 @@
-use Rattle.json_read.proofs.Names.{indexed_more}
+use Rattle.std.proofs.Common.{List, ℕ, ◌||◌, subst, bytes_eq}
+use Rattle.json_value.specs.declared.tree.Json.{Json}
+use Rattle.json_value.specs.Grammar.{has}
+use Rattle.json_read.specs.Covers.{Covers}
+use Rattle.json_read.proofs.Names.{covers_push}
 use Rattle.json_read.proofs.open_members.Members.with.Goals as goal
 
 pub invariant_of-result : goal.invariant_of-result
-invariant_of-result c = indexed_more c.self.inside.names c.in_ok-names.names c.args.name c.self.inside.list c.push.new.self c.args.value c.self.inside.indexed c.if-indexed.true c.self.invariant c.in_ok-names.ensures c.in_ok-push.ensures.ok
+invariant_of-result c =
+    covers_push c.in_ok-index.index c.self.inside.list c.push.new.self c.args.name c.args.value
+    (subst (λ (ms : List (List ℕ × Json)). Covers c.in_ok-index.index (λ k. has ms k || bytes_eq c.args.name k)) c.as_slice.ensures c.in_ok-index.ensures) c.in_ok-push.ensures.ok

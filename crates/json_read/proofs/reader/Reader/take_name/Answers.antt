@@ -1,11 +1,13 @@
-use Rattle.std.proofs.Common.{sym, ◌∙◌}
+use Rattle.std.proofs.Common.{◌≡◌, [], ◌∷◌, ◌++◌, sym, subst, ◌∙◌}
+use Rattle.json_read.specs.declared.reader.Frame.TheVariants as f
+use Rattle.json_read.specs.Machine.{Pairs}
 use Rattle.json_read.specs.View.{state_of, frames_of}
 use Rattle.json_read.proofs.Taken.{name_twice, name_taken}
 use Rattle.json_read.proofs.reader.Reader.take_name.Goals as goal
 
-pub returns-then-has-clause-goes : goal.returns-then-has-clause-goes
-returns-then-has-clause-goes c = name_twice (frames_of c.args.self.now) c.args.members c.in_ok-name.name c.args.at c.args.n c.args.tail.now (state_of c.args.self.now) c.requires.plain c.requires.ends c.in_ok-name.ensures (sym c.has.ensures ∙ c.if-has.true)
+pub returns-then-met-clause-goes : goal.returns-then-met-clause-goes
+returns-then-met-clause-goes c = name_twice (frames_of c.args.self.now) c.args.members c.in_ok-name.name c.args.at c.args.n c.args.tail.now (state_of c.args.self.now) c.requires.plain c.requires.ends c.in_ok-name.ensures (sym c.in_ok-met.ensures.met ∙ c.if-met.true)
 
 pub returns-clause-goes : goal.returns-clause-goes
 returns-clause-goes c =
-    name_taken c.args.self.now.frames c.push.new.self c.args.members c.in_ok-name.name c.args.at c.args.n c.blank_length.result c.args.tail.now c.requires.within c.requires.plain c.requires.ends c.in_ok-name.ensures (sym c.has.ensures ∙ c.if-has.false) c.in_ok-push.ensures.ok c.blank_length.ensures.within c.blank_length.ensures.blank
+    name_taken c.args.self.now.frames c.push.new.self c.args.members c.in_ok-name.name c.args.at c.args.n c.blank_length.result c.args.tail.now c.requires.within c.requires.plain c.requires.ends c.in_ok-name.ensures (sym c.in_ok-met.ensures.met ∙ c.if-met.false) (subst (λ (m : Pairs). c.push.new.self ≡ c.args.self.now.frames ++ (f.Member m c.in_ok-name.name ∷ [])) c.meets.ensures.same c.in_ok-push.ensures.ok) c.blank_length.ensures.within c.blank_length.ensures.blank
