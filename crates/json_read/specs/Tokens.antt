@@ -1,10 +1,13 @@
 -- What may be taken of the bytes at once: as much as the machine takes byte by byte.
-use Rattle.std.specs.Prelude.{◌≡◌, ◌≢◌, ◌≤◌, ◌<◌, ◌+◌, ℕ, true, false, List, [], ◌∷◌, ◌++◌, length, take, Option, Some, None, Result, Ok, Err}
+use Rattle.std.specs.Prelude.{◌≡◌, ◌≢◌, ◌≤◌, ◌<◌, ◌+◌, ◌==◌, ◌||◌, ℕ, Bool, true, false, List, [], ◌∷◌, ◌++◌, length, take, Option, Some, None, Result, Ok, Err}
 use Rattle.json_value.specs.declared.fault.JsonFault.{JsonFault}
 use Rattle.json_value.specs.declared.fault.JsonFault.TheVariants as faults
 use Rattle.json_read.specs.declared.number.Digit.{Digit}
 use Rattle.json_read.specs.declared.string.Part.{Part}
+use Rattle.json_value.specs.declared.tree.Json.{Json}
 use Rattle.json_read.specs.declared.refusal.Refusal.{Refusal}
+use Rattle.json_read.specs.declared.refusal.Refusal.TheVariants as e
+use Rattle.json_read.specs.declared.reader.Mode.TheVariants as m
 use Rattle.json_read.specs.declared.reader.text.Read.{Read}
 use Rattle.json_read.specs.declared.reader.text.Read.TheVariants as r
 use Rattle.json_read.specs.declared.string.Progress.TheVariants as s
@@ -12,7 +15,7 @@ use Rattle.json_value.specs.Grammar.{strict, is_blank, IsSpace}
 use Rattle.json_read.specs.Numbers.{number_next}
 use Rattle.json_read.specs.Scan.{Scanned, scan}
 use Rattle.exact_read.specs.Steps.{run}
-use Rattle.json_read.specs.Machine.{State, step, whole, placed}
+use Rattle.json_read.specs.Machine.{State, Frames, Outcome, step, whole, placed}
 
 -- from the old state, at this place, so many of the bytes lead to the new one; or reading ends with this fault
 abbrev pub Reaches : List ℕ → ℕ → State → Result ℕ JsonFault → State → Type 0
@@ -23,6 +26,15 @@ Reaches bytes at old (Err fault) new = fault ≢ faults.Memory → whole (run (s
 abbrev pub Takes : List ℕ → ℕ → State → Result ℕ JsonFault → State → Type 0
 Takes bytes at old (Ok n) new = (n ≤ length bytes) × (0 < length bytes → 0 < n) × (run (step strict) (take n bytes) at old ≡ Ok new)
 Takes bytes at old (Err fault) new = Reaches bytes at old (Err fault) new
+
+-- the brackets that close a list or an object
+abbrev pub is_close : ℕ → Bool
+is_close b = b == 93 || b == 125
+
+-- what is ensured where a bracket closes what is open, unless memory fails
+abbrev pub Closes : Outcome → Result Json Refusal → Frames → Type 0
+Closes outcome (Ok v) frames = outcome ≡ Ok (record { mode = m.After v; frames = frames })
+Closes outcome (Err why) frames = why ≢ e.Memory → outcome ≡ Err why
 
 -- each byte goes on with the number
 abbrev pub Follows : Digit → List ℕ → Digit → Type 0
