@@ -1,9 +1,10 @@
 -- What may be taken of the bytes at once: as much as the machine takes byte by byte.
-use Rattle.std.specs.Prelude.{◌≡◌, ◌≢◌, ◌≤◌, ◌<◌, ◌+◌, ◌==◌, ◌||◌, ℕ, Bool, true, false, List, [], ◌∷◌, ◌++◌, length, take, Option, Some, None, Result, Ok, Err}
+use Rattle.std.specs.Prelude.{◌≡◌, ◌≢◌, ◌≤◌, ◌<◌, ◌+◌, ◌==◌, ◌||◌, ℕ, Bool, true, false, List, [], ◌∷◌, ◌++◌, length, take, Option, Some, None, Result, Ok, Err, encode_utf8}
 use Rattle.json_value.specs.declared.fault.JsonFault.{JsonFault}
 use Rattle.json_value.specs.declared.fault.JsonFault.TheVariants as faults
 use Rattle.json_read.specs.declared.number.Digit.{Digit}
 use Rattle.json_read.specs.declared.string.Part.{Part}
+use Rattle.json_read.specs.declared.string.Part.TheVariants as p
 use Rattle.json_value.specs.declared.tree.Json.{Json}
 use Rattle.json_read.specs.declared.refusal.Refusal.{Refusal}
 use Rattle.json_read.specs.declared.refusal.Refusal.TheVariants as e
@@ -67,6 +68,10 @@ ReadsOn bytes at part text (Ok (r.Open last made)) = reading bytes at part text 
 ReadsOn bytes at part text (Ok (r.Closed made n)) = (n < length bytes) × (reading (take (n + 1) bytes) at part text ≡ Closed made [] (at + n))
 ReadsOn bytes at part text (Err fault) = fault ≢ faults.Memory → (why : Refusal) × (q : ℕ) × (reading bytes at part text ≡ Failed why q) × (fault ≡ placed why q)
 
--- so many plain characters are taken, where they may stand
-abbrev pub PlainOn : Part → List ℕ → List ℕ → ℕ → List ℕ → Type 0
-PlainOn part text bytes n made = (n ≤ length bytes) × ((w : List ℕ) (at : ℕ) → reading (take n bytes ++ w) at part text ≡ reading w (at + n) part made)
+-- so many of the bytes lead to this part of the string, whatever follows them
+abbrev pub RunsOn : Part → List ℕ → List ℕ → ℕ → Part → List ℕ → Type 0
+RunsOn part text bytes n last made = (n ≤ length bytes) × ((w : List ℕ) (at : ℕ) → reading (take n bytes ++ w) at part text ≡ reading w (at + n) last made)
+
+-- after a backslash, the bytes begin with the letter and the four digits that write this character
+abbrev pub Writes : List ℕ → ℕ → Type 0
+Writes bytes c = (5 ≤ length bytes) × ((w text : List ℕ) (at place : ℕ) → reading (take 5 bytes ++ w) at (p.Escape place) text ≡ reading w (at + 5) p.Plain (text ++ encode_utf8 c))
