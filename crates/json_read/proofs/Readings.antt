@@ -1,6 +1,6 @@
 -- Reading on in a string goes as the machine runs.
-use Rattle.std.proofs.Common.{◌≡◌, ◌≢◌, ℕ, zero, suc, ◌+◌, ◌<◌, ◌≤◌, false, List, [], ◌∷◌, ◌++◌, length, take, drop, get_or, add-one, Result, Ok, Err, refl, sym, ap, subst, ◌∙◌, arith, append_assoc}
-use Rattle.std.specs.Prelude.{◌-◌, IsUtf8}
+use Rattle.std.proofs.Common.{◌≡◌, ◌≢◌, ℕ, zero, suc, ◌+◌, ◌<◌, ◌≤◌, false, List, [], ◌∷◌, ◌++◌, length, take, drop, get_or, add-one, Option, Some, Result, Ok, Err, refl, sym, ap, subst, ◌∙◌, arith, append_assoc}
+use Rattle.std.specs.Prelude.{◌-◌, IsUtf8, encode_utf8}
 use Rattle.std.proofs.lemmas.List.{append-nil, take-append-drop, length-take-le, length-drop}
 use Rattle.std.proofs.Math.Seq.{take-add, take-suc, drop-cons, take-length}
 use Rattle.json_value.specs.declared.tree.Json.TheVariants as j
@@ -14,17 +14,21 @@ use Rattle.json_read.specs.declared.string.Part.TheVariants as p
 use Rattle.json_read.specs.declared.string.Progress.TheVariants as s
 use Rattle.json_value.specs.Grammar.{strict}
 use Rattle.json_read.specs.Left.{TextLeft}
-use Rattle.json_read.specs.Scan.{Scanned, Unescaped, scan}
+use Rattle.json_read.specs.declared.string.Quad.{Quad}
+use Rattle.json_read.specs.declared.string.Quad.TheVariants as quads
+use Rattle.json_value.specs.Strings.{hex_digit, is_high, is_low, four_digits}
+use Rattle.json_read.specs.Scan.{Scanned, Unescaped, grow, hex_grown, escape_scan, unit_scan, scan}
+use Rattle.json_read.proofs.TextsGo.{digit_steps}
 use Rattle.exact_read.specs.Steps.{run, on_step}
 use Rattle.json_read.specs.Machine.{State, Frames, step, str_by, placed, whole}
-use Rattle.json_read.specs.Tokens.{Takes, Reading, Open, Closed, Failed, reading_by, reading, ReadsOn, PlainOn}
+use Rattle.json_read.specs.Tokens.{Takes, Reading, Open, Closed, Failed, reading_by, reading, ReadsOn, RunsOn, Writes}
 use Rattle.json_read.specs.declared.reader.text.Read.{Read}
 use Rattle.json_read.specs.declared.reader.text.Read.TheVariants as r
 use Rattle.json_read.proofs.PlainRuns.{str_after, str_run, one_scan, unescaped_reading, rest_is}
 use Rattle.json_read.proofs.Utf8.{more_holds, done_holds}
 use Rattle.json_read.proofs.Taken.{then_ok, then_err}
 
-pub plain_on : (part : Part) (text made bytes : List ℕ) (n : ℕ) → part ≡ p.Plain → n ≤ length bytes → Unescaped (take n bytes) → made ≡ text ++ take n bytes → PlainOn part text bytes n made
+pub plain_on : (part : Part) (text made bytes : List ℕ) (n : ℕ) → part ≡ p.Plain → n ≤ length bytes → Unescaped (take n bytes) → made ≡ text ++ take n bytes → RunsOn part text bytes n part made
 plain_on part text made bytes n is le all same = (le, λ w at. at_plain w at)
   where
     at_plain : (w : List ℕ) (at : ℕ) → reading (take n bytes ++ w) at part text ≡ reading w (at + n) part made
@@ -33,8 +37,45 @@ plain_on part text made bytes n is le all same = (le, λ w at. at_plain w at)
         ∙ (unescaped_reading (take n bytes) w at (at + n) text all (ap (λ (q : ℕ). at + q) (sym (length-take-le n bytes le)))
         ∙ (ap (λ (k : Part). reading w (at + n) k (text ++ take n bytes)) (sym is) ∙ ap (λ (k : List ℕ). reading w (at + n) part k) (sym same)))
 
-pub nothing_on : (part : Part) (text bytes : List ℕ) → PlainOn part text bytes 0 text
+pub nothing_on : (part : Part) (text bytes : List ℕ) → RunsOn part text bytes 0 part text
 nothing_on part text bytes = (omega arith, λ w at. ap (λ (q : ℕ). reading w q part text) (let x : at ≡ at + 0 = omega arith in x))
+
+-- an escape of four digits
+u_scans : (at place : ℕ) (text : List ℕ) (b : ℕ) → b ≡ 117 → scan false at (p.Escape place) text b ≡ Ok (s.More (p.Hex place quads.Nothing) text)
+unfolding scan escape_scan
+u_scans at place text b is = rw is refl
+
+digit_scans : (at place : ℕ) (quad : Quad) (text : List ℕ) (b d : ℕ) → hex_digit b ≡ Some d → scan false at (p.Hex place quad) text b ≡ hex_grown place text (grow quad d)
+unfolding scan
+digit_scans at place quad text b d is = digit_steps false place quad text b d is
+
+unit_scans : (place : ℕ) (text : List ℕ) (u : ℕ) → is_high u ≡ false → is_low u ≡ false → unit_scan place text u ≡ Ok (s.More p.Plain (text ++ encode_utf8 u))
+unfolding unit_scan
+unit_scans place text u hi lo = rw (hi, lo) refl
+
+digits_read : (o x y z v a b c d : ℕ) (w text : List ℕ) (at place : ℕ) → o ≡ 117 → hex_digit x ≡ Some a → hex_digit y ≡ Some b → hex_digit z ≡ Some c → hex_digit v ≡ Some d → is_high (four_digits a b c d) ≡ false → is_low (four_digits a b c d) ≡ false
+    → reading (o ∷ (x ∷ (y ∷ (z ∷ (v ∷ w))))) at (p.Escape place) text ≡ reading w (at + 5) p.Plain (text ++ encode_utf8 (four_digits a b c d))
+digits_read o x y z v a b c d w text at place is hx hy hz hv hi lo =
+    one_scan o at (x ∷ (y ∷ (z ∷ (v ∷ w)))) (p.Escape place) text (Ok (s.More (p.Hex place quads.Nothing) text)) (u_scans at place text o is)
+    ∙ (one_scan x (at + 1) (y ∷ (z ∷ (v ∷ w))) (p.Hex place quads.Nothing) text (Ok (s.More (p.Hex place (quads.One a)) text)) (digit_scans (at + 1) place quads.Nothing text x a hx)
+    ∙ (one_scan y (at + 1 + 1) (z ∷ (v ∷ w)) (p.Hex place (quads.One a)) text (Ok (s.More (p.Hex place (quads.Two a b)) text)) (digit_scans (at + 1 + 1) place (quads.One a) text y b hy)
+    ∙ (one_scan z (at + 1 + 1 + 1) (v ∷ w) (p.Hex place (quads.Two a b)) text (Ok (s.More (p.Hex place (quads.Three a b c)) text)) (digit_scans (at + 1 + 1 + 1) place (quads.Two a b) text z c hz)
+    ∙ (one_scan v (at + 1 + 1 + 1 + 1) w (p.Hex place (quads.Three a b c)) text (Ok (s.More p.Plain (text ++ encode_utf8 (four_digits a b c d)))) (digit_scans (at + 1 + 1 + 1 + 1) place (quads.Three a b c) text v d hv ∙ unit_scans place text (four_digits a b c d) hi lo)
+    ∙ ap (λ (k : ℕ). reading w k p.Plain (text ++ encode_utf8 (four_digits a b c d))) (let far : at + 1 + 1 + 1 + 1 + 1 ≡ at + 5 = omega arith in far)))))
+
+pub unit_writes : (bytes : List ℕ) (a b c d u : ℕ) → 5 ≤ length bytes → get_or bytes 0 0 ≡ 117 → hex_digit (get_or bytes 1 0) ≡ Some a → hex_digit (get_or bytes 2 0) ≡ Some b → hex_digit (get_or bytes 3 0) ≡ Some c → hex_digit (get_or bytes 4 0) ≡ Some d
+    → u ≡ four_digits a b c d → is_high (four_digits a b c d) ≡ false → is_low (four_digits a b c d) ≡ false → Writes bytes u
+unit_writes [] a b c d u le is hx hy hz hv same hi lo = absurd (omega arith)
+unit_writes (o ∷ []) a b c d u le is hx hy hz hv same hi lo = absurd (omega arith)
+unit_writes (o ∷ (x ∷ [])) a b c d u le is hx hy hz hv same hi lo = absurd (omega arith)
+unit_writes (o ∷ (x ∷ (y ∷ []))) a b c d u le is hx hy hz hv same hi lo = absurd (omega arith)
+unit_writes (o ∷ (x ∷ (y ∷ (z ∷ [])))) a b c d u le is hx hy hz hv same hi lo = absurd (omega arith)
+unit_writes (o ∷ (x ∷ (y ∷ (z ∷ (v ∷ bs))))) a b c d u le is hx hy hz hv same hi lo =
+    (le, λ w text at place. digits_read o x y z v a b c d w text at place is hx hy hz hv hi lo ∙ ap (λ (k : ℕ). reading w (at + 5) p.Plain (text ++ encode_utf8 k)) (sym same))
+
+pub written_on : (part : Part) (place : ℕ) (text made bytes : List ℕ) (c : ℕ) → part ≡ p.Escape place → Writes bytes c → made ≡ text ++ encode_utf8 c → RunsOn part text bytes 5 p.Plain made
+written_on part place text made bytes c is written same =
+    (written.0, λ w at. ap (λ (k : Part). reading (take 5 bytes ++ w) at k text) is ∙ (written.1 w text at place ∙ ap (λ (k : List ℕ). reading w (at + 5) p.Plain k) (sym same)))
 
 -- what was read so far, whatever follows
 pub So_far : List ℕ → ℕ → ℕ → Part → List ℕ → Part → List ℕ → Type 0
@@ -47,15 +88,15 @@ begun bytes at part text = λ w. ap (λ (q : ℕ). reading w q part text) (let x
 here : (bytes : List ℕ) (i : ℕ) → i < length bytes → take (i + 1) bytes ≡ take i bytes ++ (get_or bytes i 0 ∷ [])
 here bytes i lt = rw add-one (take-suc bytes i 0 lt)
 
-pub on_more : (bytes : List ℕ) (at i n : ℕ) (first part next : Part) (given text more made : List ℕ) → i < length bytes → So_far bytes at i first given part text → scan false (at + i) part text (get_or bytes i 0) ≡ Ok (s.More next more)
-    → PlainOn next more (take (length bytes - (i + 1)) (drop (i + 1) bytes)) n made → (i + (1 + n) ≤ length bytes) × So_far bytes at (i + (1 + n)) first given next made
+pub on_more : (bytes : List ℕ) (at i n : ℕ) (first part next last : Part) (given text more made : List ℕ) → i < length bytes → So_far bytes at i first given part text → scan false (at + i) part text (get_or bytes i 0) ≡ Ok (s.More next more)
+    → RunsOn next more (take (length bytes - (i + 1)) (drop (i + 1) bytes)) n last made → (i + (1 + n) ≤ length bytes) × So_far bytes at (i + (1 + n)) first given last made
 unfolding So_far
-on_more bytes at i n first part next given text more made lt so_far scanned plain =
+on_more bytes at i n first part next last given text more made lt so_far scanned plain =
     let rest : take (length bytes - (i + 1)) (drop (i + 1) bytes) ≡ drop (i + 1) bytes = rest_is (i + 1) bytes (omega arith) in
     let le : n ≤ length (drop (i + 1) bytes) = subst (λ (q : List ℕ). n ≤ length q) rest plain.0 in
     (omega (arith, le, length-drop (i + 1) bytes), λ w. go w)
   where
-    go : (w : List ℕ) → reading (take (i + (1 + n)) bytes ++ w) at first given ≡ reading w (at + (i + (1 + n))) next made
+    go : (w : List ℕ) → reading (take (i + (1 + n)) bytes ++ w) at first given ≡ reading w (at + (i + (1 + n))) last made
     go w =
         let rest : take (length bytes - (i + 1)) (drop (i + 1) bytes) ≡ drop (i + 1) bytes = rest_is (i + 1) bytes (omega arith) in
         let b : ℕ = get_or bytes i 0 in
@@ -69,7 +110,7 @@ on_more bytes at i n first part next given text more made lt so_far scanned plai
         ∙ (so_far (get_or bytes i 0 ∷ (take n (drop (i + 1) bytes) ++ w))
         ∙ (one_scan (get_or bytes i 0) (at + i) (take n (drop (i + 1) bytes) ++ w) part text (Ok (s.More next more)) scanned
         ∙ (ap (λ (q : List ℕ). reading (take n q ++ w) (at + i + 1) next more) (sym rest)
-        ∙ (plain.1 w (at + i + 1) ∙ ap (λ (q : ℕ). reading w q next made) (let x : at + i + 1 + n ≡ at + (i + (1 + n)) = omega arith in x)))))
+        ∙ (plain.1 w (at + i + 1) ∙ ap (λ (q : ℕ). reading w q last made) (let x : at + i + 1 + n ≡ at + (i + (1 + n)) = omega arith in x)))))
 
 pub on_done : (bytes : List ℕ) (at i : ℕ) (first part : Part) (given text made : List ℕ) → i < length bytes → So_far bytes at i first given part text → scan false (at + i) part text (get_or bytes i 0) ≡ Ok (s.Done made)
     → (i < length bytes) × (reading (take (i + 1) bytes) at first given ≡ Closed made [] (at + i))

@@ -1,8 +1,8 @@
 -- What is taken at once is what the machine takes byte by byte.
-use Rattle.std.proofs.Common.{◌≡◌, ◌≢◌, ℕ, zero, suc, ◌+◌, ◌-◌, ◌<◌, ◌≤◌, Bool, true, false, cond, List, [], ◌∷◌, ◌++◌, length, take, drop, get_or, add-one, Option, Some, None, Result, Ok, Err, refl, sym, ap, subst, ◌∙◌, arith, append_assoc}
+use Rattle.std.proofs.Common.{◌≡◌, ◌≢◌, ℕ, zero, suc, ◌+◌, ◌-◌, ◌<◌, ◌≤◌, Bool, true, false, cond, List, [], ◌∷◌, ◌++◌, length, take, drop, get_or, add-one, Option, Some, None, Result, Ok, Err, refl, sym, ap, subst, ◌∙◌, arith, append_assoc, ◌⊎◌, inl, inr}
 use Rattle.std.specs.Prelude.{◌==◌, ◌||◌, reverse, IsUtf8, IfOk}
 use Rattle.std.proofs.lemmas.List.{append-nil, take-append-drop, length-take-le, length-drop, drop_all, drop-drop, reverse-append}
-use Rattle.std.proofs.lemmas.Bool.{ne_eqb}
+use Rattle.std.proofs.lemmas.Bool.{ne_eqb, eqb-true, cases_lt}
 use Rattle.std.proofs.Math.Seq.{take-add, take-suc, drop-cons, take-length}
 use Rattle.json_value.specs.declared.tree.Json.{Json}
 use Rattle.json_value.specs.declared.tree.Json.TheVariants as j
@@ -24,7 +24,7 @@ use Rattle.json_read.specs.Numbers.{number_start, number_next, may_end}
 use Rattle.json_read.specs.Scan.{scan, plain_scan}
 use Rattle.exact_read.specs.Steps.{run, on_step}
 use Rattle.json_read.specs.Machine.{State, Frames, Pairs, Outcome, to, step, placed, whole, begin, value_step, first_step, after_by, after_step, unless_blank, number_go, number_step, word_step, letters, meant, first_name_step, next_name_step, named, colon_step}
-use Rattle.json_read.specs.Tokens.{Takes, Reaches, Follows, Stops}
+use Rattle.json_read.specs.Tokens.{Takes, Reaches, is_close, Follows, Stops}
 use Rattle.json_read.specs.Left.{HoldsText, TextLeft}
 use Rattle.json_value.specs.Strings.{Chars, end}
 use Rattle.json_read.proofs.Held.{run_holds}
@@ -441,6 +441,74 @@ word_then_err word mode fs at n bytes v z z' fault is same meaning next =
     let cut = word_cut word bytes in
     then_err (letters word ++ bytes) bytes n at _ (record { mode = m.After (meant word); frames = fs }) z z' fault (ap (λ (q : ℕ). drop q (letters word ++ bytes)) same ∙ cut.1) (omega (arith, cut.3, same))
     (word_at word mode fs at n bytes is same) (subst (λ (x : Json). Takes bytes (at + n) (record { mode = m.After x; frames = fs }) (Err fault) z') meaning next)
+
+-- any other value begins with its first byte
+pub value_taken : (mode : Mode) (fs : Frames) (at b : ℕ) (bs : List ℕ) (y : State) → mode ≡ m.Value → is_blank b ≡ false → begin 64 fs b ≡ Ok y → Takes (b ∷ bs) at (record { mode = mode; frames = fs }) (Ok 1) y
+unfolding step value_step
+value_taken mode fs at b bs y is not_blank begins = one_taken b bs at _ y (ap (λ (q : Mode). step strict at (record { mode = q; frames = fs }) b) is ∙ (rw not_blank begins))
+
+pub value_refused : (mode : Mode) (fs : Frames) (at b : ℕ) (bs : List ℕ) (y : State) (why : Refusal) (fault : JsonFault) → mode ≡ m.Value → is_blank b ≡ false → fault ≡ placed why at → (why ≢ e.Memory → begin 64 fs b ≡ Err why)
+    → Takes (b ∷ bs) at (record { mode = mode; frames = fs }) (Err fault) y
+unfolding step value_step
+value_refused mode fs at b bs y why fault is not_blank placed_at fails = one_refused b bs at _ y why fault placed_at (λ not. ap (λ (q : Mode). step strict at (record { mode = q; frames = fs }) b) is ∙ (rw not_blank (fails not)))
+
+-- brackets that close what is open
+either : (x y : Bool) → (x || y) ≡ true → (x ≡ true) ⊎ (y ≡ true)
+either true y is = inl refl
+either false y is = inr is
+
+close_not_blank : (b : ℕ) → is_close b ≡ true → is_blank b ≡ false
+close_not_blank b is = by_case (either (b == 93) (b == 125) is)
+  where
+    by_case : ((b == 93) ≡ true) ⊎ ((b == 125) ≡ true) → is_blank b ≡ false
+    by_case (inl k) = rw (eqb-true b 93 k) refl
+    by_case (inr k) = rw (eqb-true b 125 k) refl
+
+close_step : (b : ℕ) (fs : Frames) (v : Json) → is_close b ≡ true → after_step fs v b ≡ after_by fs v b
+unfolding after_step
+close_step b fs v is = rw (close_not_blank b is) refl
+
+pub close_more : (bytes : List ℕ) (at i : ℕ) (v v' v'' : Json) (fs fs' fs'' : Frames) → i < length bytes → run (step strict) (take i bytes) at (record { mode = m.After v; frames = fs }) ≡ Ok (record { mode = m.After v'; frames = fs' })
+    → is_close (get_or bytes i 0) ≡ true → after_by fs' v' (get_or bytes i 0) ≡ Ok (record { mode = m.After v''; frames = fs'' })
+    → run (step strict) (take (i + 1) bytes) at (record { mode = m.After v; frames = fs }) ≡ Ok (record { mode = m.After v''; frames = fs'' })
+unfolding run step
+close_more bytes at i v v' v'' fs fs' fs'' lt so_far is closes =
+    let long : length (take i bytes) ≡ i = length-take-le i bytes (omega arith) in
+    ap (λ (w : List ℕ). run (step strict) w at (record { mode = m.After v; frames = fs })) (rw add-one (take-suc bytes i 0 lt))
+    ∙ (run_both (step strict) (take i bytes) (get_or bytes i 0 ∷ []) at _ _ so_far
+    ∙ ap (λ (o : Outcome). on_step (step strict) (at + length (take i bytes)) o (run (step strict) [] (at + length (take i bytes) + 1))) (close_step (get_or bytes i 0) fs' v' is ∙ closes))
+
+pub close_refused : (bytes : List ℕ) (at i : ℕ) (v v' : Json) (fs fs' : Frames) (why : Refusal) (fault : JsonFault) (z : State) → i < length bytes → run (step strict) (take i bytes) at (record { mode = m.After v; frames = fs }) ≡ Ok (record { mode = m.After v'; frames = fs' })
+    → is_close (get_or bytes i 0) ≡ true → fault ≡ placed why (at + i) → (why ≢ e.Memory → after_by fs' v' (get_or bytes i 0) ≡ Err why) → Takes bytes at (record { mode = m.After v; frames = fs }) (Err fault) z
+unfolding step
+close_refused bytes at i v v' fs fs' why fault z lt so_far is placed_at fails =
+    then_err bytes (get_or bytes i 0 ∷ drop (suc i) bytes) i at _ (record { mode = m.After v'; frames = fs' }) z z fault (drop-cons bytes i 0 lt) (omega arith) so_far
+    (after_refused (get_or bytes i 0) (drop (suc i) bytes) (at + i) v' fs' z why fault placed_at (λ not. close_step (get_or bytes i 0) fs' v' is ∙ fails not))
+
+pub close_then_ok : (bytes : List ℕ) (at i k : ℕ) (v v' : Json) (fs fs' : Frames) (z : State) → i ≤ length bytes → run (step strict) (take i bytes) at (record { mode = m.After v; frames = fs }) ≡ Ok (record { mode = m.After v'; frames = fs' })
+    → Takes (take (length bytes - i) (drop i bytes)) (at + i) (record { mode = m.After v'; frames = fs' }) (Ok k) z → Takes bytes at (record { mode = m.After v; frames = fs }) (Ok (i + k)) z
+close_then_ok bytes at i k v v' fs fs' z le so_far next =
+    let rest : take (length bytes - i) (drop i bytes) ≡ drop i bytes = rest_is i bytes le in (
+      omega (arith, next.0, ap length rest, length-drop i bytes),
+      (λ some. by_some some),
+      split_run bytes (take (length bytes - i) (drop i bytes)) i k at _ (record { mode = m.After v'; frames = fs' }) z (sym rest) le so_far next.2,
+    )
+  where
+    by_some : 0 < length bytes → 0 < i + k
+    by_some some = by_case (cases_lt 0 i)
+      where
+        by_case : (0 < i) ⊎ (i ≤ 0) → 0 < i + k
+        by_case (inl lt) = omega arith
+        by_case (inr none) = omega (arith, next.1 (omega (arith, ap length (rest_is i bytes le), length-drop i bytes)))
+
+pub close_then_err : (bytes : List ℕ) (at i : ℕ) (v v' : Json) (fs fs' : Frames) (z z' : State) (fault : JsonFault) → i ≤ length bytes → run (step strict) (take i bytes) at (record { mode = m.After v; frames = fs }) ≡ Ok (record { mode = m.After v'; frames = fs' })
+    → Takes (take (length bytes - i) (drop i bytes)) (at + i) (record { mode = m.After v'; frames = fs' }) (Err fault) z' → Takes bytes at (record { mode = m.After v; frames = fs }) (Err fault) z
+close_then_err bytes at i v v' fs fs' z z' fault le so_far failed =
+    then_err bytes (take (length bytes - i) (drop i bytes)) i at _ (record { mode = m.After v'; frames = fs' }) z z' fault (sym (rest_is i bytes le)) le so_far failed
+
+pub close_begun : (bytes : List ℕ) (at : ℕ) (v : Json) (fs : Frames) → run (step strict) (take 0 bytes) at (record { mode = m.After v; frames = fs }) ≡ Ok (record { mode = m.After v; frames = fs })
+unfolding run
+close_begun bytes at v fs = refl
 
 -- the first item of a list begins as a value does
 first_begins : (fs : Frames) (at b : ℕ) → is_blank b ≡ false → (b == 93) ≡ false → step strict at (record { mode = m.First; frames = fs }) b ≡ step strict at (record { mode = m.Value; frames = f.List [] ∷ fs }) b

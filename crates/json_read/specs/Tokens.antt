@@ -1,10 +1,14 @@
 -- What may be taken of the bytes at once: as much as the machine takes byte by byte.
-use Rattle.std.specs.Prelude.{◌≡◌, ◌≢◌, ◌≤◌, ◌<◌, ◌+◌, ℕ, true, false, List, [], ◌∷◌, ◌++◌, length, take, Option, Some, None, Result, Ok, Err}
+use Rattle.std.specs.Prelude.{◌≡◌, ◌≢◌, ◌≤◌, ◌<◌, ◌+◌, ◌==◌, ◌||◌, ℕ, Bool, true, false, List, [], ◌∷◌, ◌++◌, length, take, Option, Some, None, Result, Ok, Err, encode_utf8}
 use Rattle.json_value.specs.declared.fault.JsonFault.{JsonFault}
 use Rattle.json_value.specs.declared.fault.JsonFault.TheVariants as faults
 use Rattle.json_read.specs.declared.number.Digit.{Digit}
 use Rattle.json_read.specs.declared.string.Part.{Part}
+use Rattle.json_read.specs.declared.string.Part.TheVariants as p
+use Rattle.json_value.specs.declared.tree.Json.{Json}
 use Rattle.json_read.specs.declared.refusal.Refusal.{Refusal}
+use Rattle.json_read.specs.declared.refusal.Refusal.TheVariants as e
+use Rattle.json_read.specs.declared.reader.Mode.TheVariants as m
 use Rattle.json_read.specs.declared.reader.text.Read.{Read}
 use Rattle.json_read.specs.declared.reader.text.Read.TheVariants as r
 use Rattle.json_read.specs.declared.string.Progress.TheVariants as s
@@ -12,7 +16,7 @@ use Rattle.json_value.specs.Grammar.{strict, is_blank, IsSpace}
 use Rattle.json_read.specs.Numbers.{number_next}
 use Rattle.json_read.specs.Scan.{Scanned, scan}
 use Rattle.exact_read.specs.Steps.{run}
-use Rattle.json_read.specs.Machine.{State, step, whole, placed}
+use Rattle.json_read.specs.Machine.{State, Frames, Outcome, step, whole, placed}
 
 -- from the old state, at this place, so many of the bytes lead to the new one; or reading ends with this fault
 abbrev pub Reaches : List ℕ → ℕ → State → Result ℕ JsonFault → State → Type 0
@@ -23,6 +27,15 @@ Reaches bytes at old (Err fault) new = fault ≢ faults.Memory → whole (run (s
 abbrev pub Takes : List ℕ → ℕ → State → Result ℕ JsonFault → State → Type 0
 Takes bytes at old (Ok n) new = (n ≤ length bytes) × (0 < length bytes → 0 < n) × (run (step strict) (take n bytes) at old ≡ Ok new)
 Takes bytes at old (Err fault) new = Reaches bytes at old (Err fault) new
+
+-- the brackets that close a list or an object
+abbrev pub is_close : ℕ → Bool
+is_close b = b == 93 || b == 125
+
+-- what is ensured where a bracket closes what is open, unless memory fails
+abbrev pub Closes : Outcome → Result Json Refusal → Frames → Type 0
+Closes outcome (Ok v) frames = outcome ≡ Ok (record { mode = m.After v; frames = frames })
+Closes outcome (Err why) frames = why ≢ e.Memory → outcome ≡ Err why
 
 -- each byte goes on with the number
 abbrev pub Follows : Digit → List ℕ → Digit → Type 0
@@ -55,6 +68,10 @@ ReadsOn bytes at part text (Ok (r.Open last made)) = reading bytes at part text 
 ReadsOn bytes at part text (Ok (r.Closed made n)) = (n < length bytes) × (reading (take (n + 1) bytes) at part text ≡ Closed made [] (at + n))
 ReadsOn bytes at part text (Err fault) = fault ≢ faults.Memory → (why : Refusal) × (q : ℕ) × (reading bytes at part text ≡ Failed why q) × (fault ≡ placed why q)
 
--- so many plain characters are taken, where they may stand
-abbrev pub PlainOn : Part → List ℕ → List ℕ → ℕ → List ℕ → Type 0
-PlainOn part text bytes n made = (n ≤ length bytes) × ((w : List ℕ) (at : ℕ) → reading (take n bytes ++ w) at part text ≡ reading w (at + n) part made)
+-- so many of the bytes lead to this part of the string, whatever follows them
+abbrev pub RunsOn : Part → List ℕ → List ℕ → ℕ → Part → List ℕ → Type 0
+RunsOn part text bytes n last made = (n ≤ length bytes) × ((w : List ℕ) (at : ℕ) → reading (take n bytes ++ w) at part text ≡ reading w (at + n) last made)
+
+-- after a backslash, the bytes begin with the letter and the four digits that write this character
+abbrev pub Writes : List ℕ → ℕ → Type 0
+Writes bytes c = (5 ≤ length bytes) × ((w text : List ℕ) (at place : ℕ) → reading (take 5 bytes ++ w) at (p.Escape place) text ≡ reading w (at + 5) p.Plain (text ++ encode_utf8 c))

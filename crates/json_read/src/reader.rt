@@ -181,6 +181,15 @@ impl Reader {
         }
     }
 
+    /// Values mostly follow one another with the mode unchanged, and letting an old mode go costs time.
+    fn await_value(&mut self)
+        ensures { state_of self.new ≡ record { mode = modes.Value; frames = frames_of self.old } }
+    {
+        if !matches!(self.mode, Mode::Value) {
+            self.mode = Mode::Value;
+        }
+    }
+
     fn after_item(&mut self, items: Items<Json>, value: Json, byte: u8) -> Result<(), Refusal>
         ensures { spec.Steps (spec.after_by (List items ∷ frames_of self.old) value byte) result (state_of self.new) }
     {
@@ -188,7 +197,7 @@ impl Reader {
         if byte == b',' {
             items.push(value)?;
             self.frames.push(Frame::List(items))?;
-            self.mode = Mode::Value;
+            self.await_value();
             return Ok(());
         }
         if byte == b']' {

@@ -5,6 +5,7 @@ ghost use Rattle.json_read.specs.Scan as spec;
 ghost use Rattle.json_read.specs.Scan.{Scans};
 ghost use Rattle.json_value.specs.Strings as strings;
 ghost use Rattle.json_read.specs.Scan.{Unescaped};
+ghost use Rattle.json_read.specs.Tokens.{Writes};
 ghost use Rattle.json_read.specs.declared.string.Grown.TheVariants.{Whole};
 
 use crate::buffer::Buffer;
@@ -265,6 +266,30 @@ fn hex(place: u64, quad: Quad, text: Buffer, byte: u8) -> Result<Progress, Refus
             Grown::Part(quad) => Ok(Progress::More(Part::Hex(place, quad), text)),
             Grown::Whole(value) => unit(place, text, value),
         },
+    }
+}
+
+/// The character that is escaped by `u` and four digits, after a backslash. None for a surrogate.
+pub fn unit_char(bytes: &[u8]) -> Option<char>
+    ensures { IfSome result (λ c. Writes bytes.now c) }
+{
+    match bytes {
+        [b'u', x, y, z, v, ..] => {
+            let unit = four(
+                hex_digit(*x)?,
+                hex_digit(*y)?,
+                hex_digit(*z)?,
+                hex_digit(*v)?,
+            );
+            if is_high(unit) || is_low(unit) {
+                return None;
+            }
+            match char::from_u32(unit) {
+                Some(c) => Some(c),
+                None => None,
+            }
+        }
+        _ => None,
     }
 }
 

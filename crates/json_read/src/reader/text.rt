@@ -1,11 +1,11 @@
 //! The rest of a string at once.
 
 ghost use Rattle.std.specs.Prelude.{◌≡◌, ◌≤◌, ◌<◌, ◌+◌, ◌^◌, ◌++◌, length, take, IfOk};
-ghost use Rattle.json_read.specs.Tokens.{ReadsOn, PlainOn};
+ghost use Rattle.json_read.specs.Tokens.{ReadsOn, RunsOn};
 
 use super::placed;
 use crate::buffer::Buffer;
-use crate::string::{Part, Progress, plain_length, scan};
+use crate::string::{Part, Progress, plain_length, scan, unit_char};
 use json_value::JsonFault;
 use std::alloc::AllocError;
 
@@ -18,18 +18,26 @@ pub enum Read {
     Closed(Buffer, usize),
 }
 
-/// Takes the plain characters that the bytes begin with, where they may stand, and says how many.
-fn plain_on(part: Part, text: Buffer, bytes: &[u8]) -> Result<(usize, Buffer), AllocError>
-    ensures { IfOk result (λ made. PlainOn part text bytes.now made.0 made.1) }
+/// Takes what can be taken at once, and says how many bytes that is: characters that stand for themselves, or the rest
+/// of an escape.
+fn runs_on(part: Part, text: Buffer, bytes: &[u8]) -> Result<(usize, Part, Buffer), AllocError>
+    ensures { IfOk result (λ made. RunsOn part text bytes.now made.0 made.1 made.2) }
 {
     let mut text = text;
     match part {
         Part::Plain => {
             let n = plain_length(bytes);
             text.append(&bytes[..n])?;
-            Ok((n, text))
+            Ok((n, part, text))
         }
-        _ => Ok((0, text)),
+        Part::Escape(_) => match unit_char(bytes) {
+            Some(c) => {
+                text.push_char(c)?;
+                Ok((5, Part::Plain, text))
+            }
+            None => Ok((0, part, text)),
+        },
+        _ => Ok((0, part, text)),
     }
 }
 
@@ -46,8 +54,8 @@ pub(super) fn read_on(at: usize, part: Part, text: Buffer, bytes: &[u8]) -> Resu
             Err(refusal) => return Err(placed(refusal, (at + i) as u64)),
             Ok(Progress::Done(made)) => return Ok(Read::Closed(made, i)),
             Ok(Progress::More(next, more)) => {
-                let (n, more) = plain_on(next, more, &bytes[i + 1..])?;
-                part = next;
+                let (n, last, more) = runs_on(next, more, &bytes[i + 1..])?;
+                part = last;
                 text = more;
                 i += 1 + n;
             }

@@ -1,13 +1,13 @@
 //! Whole tokens at once, where they stand in their plainest form.
 
-ghost use Rattle.std.specs.Prelude.{◌≡◌, [], ◌∷◌, ◌++◌, ◌<◌, ◌≤◌, ◌+◌, ◌^◌, length, IfOk, IfSome, Some, ℕ, take, drop};
-ghost use Rattle.json_value.specs.Grammar.{IsSpace};
+ghost use Rattle.std.specs.Prelude.{◌≡◌, true, false, [], ◌∷◌, ◌++◌, ◌<◌, ◌≤◌, ◌+◌, ◌^◌, length, IfOk, IfSome, Some, ℕ, take, drop};
+ghost use Rattle.json_value.specs.Grammar.{IsSpace, is_blank};
 ghost use Rattle.json_read.specs.Left.{HoldsText};
 ghost use Rattle.json_read.specs.View.{state_of, frames_of};
-ghost use Rattle.json_read.specs.Tokens.{Takes, Reaches, Follows, Stops};
+ghost use Rattle.json_read.specs.Tokens.{Takes, Reaches, Closes, is_close, Follows, Stops};
 ghost use Rattle.json_read.specs.Scan.{Unescaped};
 ghost use Rattle.json_read.specs.Numbers.{number_start};
-ghost use Rattle.json_read.specs.Machine.{letters};
+ghost use Rattle.json_read.specs.Machine.{letters, after_by};
 ghost use Rattle.json_read.specs.declared.reader.Frame.TheVariants.{Member};
 ghost use Rattle.json_read.specs.declared.reader.Mode.TheVariants as modes;
 
@@ -16,6 +16,7 @@ use super::{Frame, Mode, Reader, Word, is_blank, letters, meant, placed};
 use crate::buffer::Buffer;
 use crate::number::{Digit, may_end, number_next, number_start};
 use crate::open_members::Members;
+use crate::refusal::Refusal;
 use crate::string::{Part, plain_length};
 use flow_base::Text;
 use json_value::{Json, JsonFault};
@@ -82,6 +83,12 @@ fn plain_name(bytes: &[u8]) -> Option<usize>
     }
 }
 
+fn is_close(byte: u8) -> bool
+    ensures { result ≡ is_close byte }
+{
+    byte == b']' || byte == b'}'
+}
+
 impl Reader {
     /// One byte.
     fn take_byte(&mut self, at: usize, byte: u8, tail: &[u8]) -> Result<usize, JsonFault>
@@ -131,7 +138,7 @@ impl Reader {
             return Err(JsonFault::Twice(at as u64));
         }
         self.frames.push(Frame::Member(members, name))?;
-        self.mode = Mode::Value;
+        self.await_value();
         Ok(n + 3 + blank_length(&tail[n + 2..]))
     }
 
@@ -202,8 +209,34 @@ impl Reader {
         }
     }
 
-    /// After a value.
-    fn value_read(&mut self, value: Json, at: usize, bytes: &[u8]) -> Result<usize, JsonFault>
+    /// What a bracket closes after this value.
+    fn close(&mut self, value: Json, byte: u8) -> Result<Json, Refusal>
+        requires { is_close byte ≡ true }
+        ensures { Closes (after_by (frames_of self.old) value byte) result (frames_of self.new) }
+    {
+        match self.frames.pop() {
+            None => Err(Refusal::Syntax),
+            Some(Frame::List(items)) => {
+                if byte != b']' {
+                    return Err(Refusal::Syntax);
+                }
+                let mut items = items;
+                items.push(value)?;
+                Ok(Json::List(items))
+            }
+            Some(Frame::Member(members, name)) => {
+                if byte != b'}' {
+                    return Err(Refusal::Syntax);
+                }
+                let mut items = members.into_items();
+                items.push((name, value))?;
+                Ok(Json::Object(items))
+            }
+        }
+    }
+
+    /// After a value that no bracket follows at once.
+    fn value_kept(&mut self, value: Json, at: usize, bytes: &[u8]) -> Result<usize, JsonFault>
         requires { at + length bytes.now < 2 ^ 64 }
         ensures { Takes bytes.now at (record { mode = modes.After value; frames = frames_of self.old }) result (state_of self.new) }
     {
@@ -214,6 +247,26 @@ impl Reader {
             }
             [b',', after @ ..] => self.comma(value, at, after),
             [byte, tail @ ..] => self.after_byte(value, at, *byte, tail),
+        }
+    }
+
+    /// After a value.
+    fn value_read(&mut self, value: Json, at: usize, bytes: &[u8]) -> Result<usize, JsonFault>
+        requires { at + length bytes.now < 2 ^ 64 }
+        ensures { Takes bytes.now at (record { mode = modes.After value; frames = frames_of self.old }) result (state_of self.new) }
+    {
+        let mut value = value;
+        let mut i = 0;
+        while i < bytes.len() && is_close(bytes[i]) {
+            match self.close(value, bytes[i]) {
+                Ok(whole) => value = whole,
+                Err(refusal) => return Err(placed(refusal, (at + i) as u64)),
+            }
+            i += 1;
+        }
+        match self.value_kept(value, at + i, &bytes[i..]) {
+            Ok(k) => Ok(i + k),
+            Err(fault) => Err(fault),
         }
     }
 
@@ -280,13 +333,17 @@ impl Reader {
     fn take_word(&mut self, at: usize, byte: u8, tail: &[u8]) -> Result<usize, JsonFault>
         requires place { at + length tail.now + 1 < 2 ^ 64 }
         requires mode { self.old.mode ≡ modes.Value }
+        requires begins { is_blank byte ≡ false }
         ensures { Takes (byte ∷ tail.now) at (state_of self.old) result (state_of self.new) }
     {
         match (byte, tail) {
             (b'n', [b'u', b'l', b'l', after @ ..]) => self.word_read(Word::Null, at, after),
             (b't', [b'r', b'u', b'e', after @ ..]) => self.word_read(Word::True, at, after),
             (b'f', [b'a', b'l', b's', b'e', after @ ..]) => self.word_read(Word::False, at, after),
-            _ => self.take_byte(at, byte, tail),
+            _ => match self.begin(byte) {
+                Ok(()) => Ok(1),
+                Err(refusal) => Err(placed(refusal, at as u64)),
+            },
         }
     }
 

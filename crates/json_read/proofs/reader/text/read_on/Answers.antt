@@ -13,7 +13,7 @@ returns-in-Ok-Done c = on_done c.args.bytes.now c.args.at c.loop-i.i c.args.part
 
 pub loop-i-preserved : goal.loop-i-preserved
 loop-i-preserved c =
-    on_more c.args.bytes.now c.args.at c.loop-i.i c.in_ok-n-in-Ok-More.n c.args.part c.loop-i.part c.in-Ok-More.next c.args.text c.loop-i.text c.in-Ok-More.more c.in_ok-n-in-Ok-More.more c.loop-i-test.true c.loop-i.invariant.1 (c.in-Ok-More.ensures ∙ ap (λ k. Ok k) c.in-Ok-More.field-0-is) c.in_ok-n-in-Ok-More.ensures
+    on_more c.args.bytes.now c.args.at c.loop-i.i c.in_ok-n-in-Ok-More.n c.args.part c.loop-i.part c.in-Ok-More.next c.in_ok-n-in-Ok-More.last c.args.text c.loop-i.text c.in-Ok-More.more c.in_ok-n-in-Ok-More.more c.loop-i-test.true c.loop-i.invariant.1 (c.in-Ok-More.ensures ∙ ap (λ k. Ok k) c.in-Ok-More.field-0-is) c.in_ok-n-in-Ok-More.ensures
 
 pub returns : goal.returns
 returns c = on_end c.args.bytes.now c.args.at c.loop-i.i c.args.part c.loop-i.part c.args.text c.loop-i.text c.loop-i.invariant.0 (omega arith) c.loop-i.invariant.1
