@@ -10,8 +10,6 @@ pub mod Complete
 pub mod Whole
 pub mod Laxer
 pub mod Judged
-pub mod Names
-pub mod Digested
 pub mod PlainRuns
 pub mod Held
 pub mod Taken

@@ -1,9 +1,7 @@
-pub mod Covers
 pub mod Faults
 pub mod Left
 pub mod Machine
 pub mod Numbers
 pub mod Scan
-pub mod Slots
 pub mod Tokens
 pub mod View

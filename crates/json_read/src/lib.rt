@@ -2,10 +2,8 @@
 #![tactic(auto)]
 
 mod buffer;
-mod digests;
 mod laws;
 mod number;
-mod open_members;
 mod reader;
 mod refusal;
 mod string;

@@ -16,10 +16,10 @@ mod tokens;
 
 use crate::buffer::Buffer;
 use crate::number::{Digit, may_end, number_next, number_start};
-use crate::open_members::Members;
 use crate::refusal::Refusal;
 use crate::string::{Part, Progress, scan};
 use flow_base::Text;
+use json_members::Members;
 use json_value::{Json, JsonFault};
 use sqlite_items::Items;
 use std::alloc::Global;

@@ -117,3 +117,53 @@ fn texts_that_are_spelled(rt: HostRuntime) {
         );
     }
 }
+
+/// The fault of an object that begins with twenty names.
+fn fault_after(alloc: Global, rest: &str) -> Option<JsonFault> {
+    let front =
+        "{\"a\":1,\"b\":1,\"c\":1,\"d\":1,\"e\":1,\"f\":1,\"g\":1,\"h\":1,\"i\":1,\"j\":1,\"k\":1,\"l\":1,\"m\":1,\"n\":1,\"o\":1,\"p\":1,\"q\":1,\"r\":1,\"s\":1,\"t\":1,";
+    match format!(in alloc; "{front}{rest}") {
+        Ok(text) => read(alloc, text.as_bytes()).err(),
+        Err(_) => Some(JsonFault::Memory),
+    }
+}
+
+/// The digests of the members' names tell neither two of these apart, nor that the third is new.
+#[test]
+fn names_that_digests_do_not_tell(rt: HostRuntime) {
+    let cases = [
+        (
+            "\"kjgqfmbuimeynkyqHTv1oXUTuyK4HY7P\":1,\"kjgqfmbuimeynkyqYZkjI4QudwVon53q\":2}",
+            None,
+        ),
+        (
+            "\"kjgqfmbuimeynkyqHTv1oXUTuyK4HY7P\":1,\"kjgqfmbuimeynkyqYZkjI4QudwVon53q\":2,\"u\":3}",
+            None,
+        ),
+        (
+            "\"kjgqfmbuimeynkyqHTv1oXUTuyK4HY7P\":1,\"kjgqfmbuimeynkyqYZkjI4QudwVon53q\":2,\"kjgqfmbuimeynkyqHTv1oXUTuyK4HY7P\":3}",
+            Some(JsonFault::Twice(195)),
+        ),
+        (
+            "\"kjgqfmbuimeynkyqHTv1oXUTuyK4HY7P\":1,\"kjgqfmbuimeynkyqYZkjI4QudwVon53q\":2,\"kjgqfmbuimeynkyqYZkjI4QudwVon53q\":3}",
+            Some(JsonFault::Twice(195)),
+        ),
+        (
+            "\"kjgqfmbuimeynkyqHTv1oXUTuyK4HY7P\":1,\"kjgqfmbuimeynkyqYZkjI4QudwVon53q\":2,\"a\":3}",
+            Some(JsonFault::Twice(195)),
+        ),
+        (
+            "\"kjgqfmbuimeynkyqHTv1oXUTuyK4HY7P\":1,\"kjgqfmbuimeynkyqHTv1oXUTuyK4HY7P\":2}",
+            Some(JsonFault::Twice(158)),
+        ),
+        ("\"oboitxvtubhldxamGT8n|PFX12345678\":1,\"u\":2}", None),
+        (
+            "\"oboitxvtubhldxamGT8n|PFX12345678\":1,\"oboitxvtubhldxamGT8n|PFX12345678\":2}",
+            Some(JsonFault::Twice(158)),
+        ),
+        ("\"t\":2}", Some(JsonFault::Twice(121))),
+    ];
+    for (rest, fault) in cases {
+        assert!(rt; fault_after(rt.alloc(), rest) == fault, "at {rest}");
+    }
+}

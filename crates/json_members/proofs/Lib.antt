@@ -1,0 +1,2 @@
+pub mod Digested
+pub mod Names
