@@ -11,4 +11,4 @@ use Rattle.json_members.specs.Slots.{digest_of, has_digest}
 abbrev pub Covers : Index → (List ℕ → Bool) → Type 0
 Covers OneByOne named = Unit {0}
 Covers (ByDigest t) named = (k : List ℕ) → named k ≡ true → has_digest t.value (digest_of k) ≡ true
-Covers (ByName s) named = (k : List ℕ) → contains (slice_cmp nat_cmp) s k ≡ named k
+Covers (ByName s) named = (k : List ℕ) → contains (slice_cmp nat_cmp) s.value k ≡ named k

@@ -1,6 +1,6 @@
 //! The members of an object that is read, with their names in order.
 
-ghost use Rattle.std.specs.Prelude.{◌≡◌, [], ◌∷◌, ◌++◌, ◌||◌, IfOk, IfSome, List, ℕ, true, false};
+ghost use Rattle.std.specs.Prelude.{◌≡◌, [], ◌∷◌, ◌++◌, ◌||◌, IfOk, IfSome, Bool, List, ℕ, true, false};
 ghost use Rattle.std.specs.BTreeSet.{contains, Updates};
 ghost use Rattle.std.specs.Cmp.Lexicographic.{slice_cmp};
 ghost use Rattle.std.specs.Ordering.{nat_cmp};
@@ -24,14 +24,14 @@ const FEW: usize = 16;
 /// The slots of the first table of digests, less one.
 const FIRST_MASK: u64 = 63;
 
-/// How a name is looked for.
+/// How a name is looked for. Boxed, since the reader moves the members about.
 #[derive(Drop)]
 pub enum Index {
     OneByOne,
-    /// A name is new if its digest is not here. Boxed, since the reader moves the members about.
+    /// A name is new if its digest is not here.
     ByDigest(Box<Digests>),
     /// Once a digest did not tell: whoever chose the names may have chosen many of one digest.
-    ByName(BTreeSet<Text>),
+    ByName(Box<BTreeSet<Text>>),
 }
 
 #[derive(Drop)]
@@ -126,13 +126,22 @@ impl Index {
         }
     }
 
+    fn of_names(alloc: Global, names: BTreeSet<Text>) -> Result<Index, Memory>
+        ensures { IfOk result (λ index. (named : List ℕ → Bool) → ((k : List ℕ) → contains (slice_cmp nat_cmp) names k ≡ named k) → Covers index named) }
+    {
+        match Box::new(alloc, names) {
+            Ok(names) => Ok(Index::ByName(names)),
+            Err(_) => Err(Memory),
+        }
+    }
+
     /// An index of the names of these members and of one more.
     fn by_name(alloc: Global, members: &[(Text, Json)], name: &Text) -> Result<Index, Memory>
         ensures { IfOk result (λ index. Covers index (λ k. grammar.has members.now k || bytes_eq name.now k)) }
     {
         let names = names_of(alloc, members)?;
         let names = with_name(names, name)?;
-        Ok(Index::ByName(names))
+        Index::of_names(alloc, names)
     }
 
     fn by_digest(
@@ -178,8 +187,8 @@ impl Index {
             }
             Index::ByDigest(digests) => Index::by_digest(alloc, digests, members, name),
             Index::ByName(names) => {
-                let names = with_name(names, name)?;
-                Ok(Index::ByName(names))
+                let names = with_name(Box::into_inner(names), name)?;
+                Index::of_names(alloc, names)
             }
         }
     }
@@ -213,7 +222,7 @@ impl Members {
     {
         let names = names_of(self.alloc, self.list.as_slice())?;
         let met = names.contains(name);
-        self.index = Index::ByName(names);
+        self.index = Index::of_names(self.alloc, names)?;
         Ok(met)
     }
 
