@@ -3,7 +3,7 @@ use Rattle.std.proofs.Common.{◌≡◌, ◌≢◌, ℕ, zero, suc, ◌+◌, ◌
 use Rattle.std.specs.Prelude.{◌==◌, ◌||◌, reverse, nat_lt, IsUtf8, IfOk}
 use Rattle.std.proofs.lemmas.List.{append-nil, take-append-drop, length-take-le, length-drop, drop_all, drop-drop, reverse-append}
 use Rattle.std.proofs.lemmas.Bool.{ne_eqb, eqb-true, cases_lt}
-use Rattle.std.proofs.Math.Seq.{take-add, take-suc, drop-cons, take-length}
+use Rattle.std.proofs.Math.Seq.{take-add, take-suc, drop-cons}
 use Rattle.json_value.specs.declared.tree.Json.{Json}
 use Rattle.json_value.specs.declared.tree.Json.TheVariants as j
 use Rattle.json_read.specs.declared.refusal.Refusal.{Refusal}
@@ -23,10 +23,9 @@ use Rattle.json_value.specs.Grammar.{strict, has, is_blank, IsSpace}
 use Rattle.json_read.specs.Numbers.{number_start, number_next, may_end}
 use Rattle.json_read.specs.Scan.{scan, plain_scan}
 use Rattle.exact_read.specs.Steps.{run, on_step}
-use Rattle.json_read.specs.Machine.{State, Frames, Pairs, Outcome, to, step, placed, whole, open_by, begin, value_step, first_step, after_by, after_step, unless_blank, number_go, number_step, word_step, letters, meant, first_name_step, next_name_step, named, colon_step}
+use Rattle.json_read.specs.Machine.{State, Frames, Pairs, Outcome, to, step, placed, whole, open_by, begin, value_step, first_step, after_by, after_step, number_go, number_step, word_step, letters, meant, first_name_step, next_name_step, named, colon_step}
 use Rattle.json_read.specs.Tokens.{Takes, Reaches, is_close, Follows, Stops}
-use Rattle.json_read.specs.Left.{HoldsText, TextLeft}
-use Rattle.json_value.specs.Strings.{Chars, end}
+use Rattle.json_value.specs.Strings.{end}
 use Rattle.json_read.proofs.Held.{run_holds}
 use Rattle.json_read.proofs.Utf8.{plain_holds, number_ends}
 use Rattle.json_read.proofs.PlainRuns.{plain_runs, naming_runs, rest_is}
@@ -58,6 +57,15 @@ pub after_refused : (b : ℕ) (bs : List ℕ) (at : ℕ) (v : Json) (fs : Frames
     → Takes (b ∷ bs) at (record { mode = m.After v; frames = fs }) (Err fault) y
 unfolding step
 after_refused b bs at v fs y why fault is fails = one_refused b bs at (record { mode = m.After v; frames = fs }) y why fault is fails
+
+pub after_taken_at : (bytes : List ℕ) (at : ℕ) (v : Json) (fs : Frames) (y : State) → 1 ≤ length bytes → after_step fs v (get_or bytes 0 0) ≡ Ok y → Takes bytes at (record { mode = m.After v; frames = fs }) (Ok 1) y
+after_taken_at [] at v fs y some is = absurd (omega arith)
+after_taken_at (b ∷ bs) at v fs y some is = after_taken b bs at v fs y is
+
+pub after_refused_at : (bytes : List ℕ) (at : ℕ) (v : Json) (fs : Frames) (y : State) (why : Refusal) (fault : JsonFault) → 1 ≤ length bytes → fault ≡ placed why at → (why ≢ e.Memory → after_step fs v (get_or bytes 0 0) ≡ Err why)
+    → Takes bytes at (record { mode = m.After v; frames = fs }) (Err fault) y
+after_refused_at [] at v fs y why fault some is fails = absurd (omega arith)
+after_refused_at (b ∷ bs) at v fs y why fault some is fails = after_refused b bs at v fs y why fault is fails
 
 pub comma_by : (fs : Frames) (v : Json) → after_step fs v 44 ≡ after_by fs v 44
 unfolding after_step
@@ -139,6 +147,10 @@ pub next_name_waits : (ms : Pairs) (fs : Frames) → Waits (m.NextName ms) fs
 unfolding step next_name_step
 next_name_waits ms fs at b is = rw is refl
 
+pub after_waits : (v : Json) (fs : Frames) → Waits (m.After v) fs
+unfolding step after_step
+after_waits v fs at b is = rw is refl
+
 pub blank_taken : (mode mode' : Mode) (fs : Frames) (at b k : ℕ) (bs : List ℕ) → mode ≡ mode' → Waits mode' fs → is_blank b ≡ true → k ≤ length bs → IsSpace (take k bs)
     → Takes (b ∷ bs) at (record { mode = mode; frames = fs }) (Ok (1 + k)) (record { mode = mode; frames = fs })
 blank_taken mode mode' fs at b k bs same waits is le all =
@@ -148,6 +160,14 @@ blank_taken mode mode' fs at b k bs same waits is le all =
       ap (λ (q : ℕ). run (step strict) (take q (b ∷ bs)) at (record { mode = mode'; frames = fs })) (let one : 1 + k ≡ suc k = omega arith in one)
           ∙ blank_runs mode' fs waits (b ∷ take k bs) at (is, all),
     )
+
+pub blank_taken_at : (mode : Mode) (fs : Frames) (at k : ℕ) (bytes : List ℕ) → Waits mode fs → 1 ≤ length bytes → is_blank (get_or bytes 0 0) ≡ true → k ≤ length (take (length bytes - 1) (drop 1 bytes)) → IsSpace (take k (take (length bytes - 1) (drop 1 bytes)))
+    → Takes bytes at (record { mode = mode; frames = fs }) (Ok (1 + k)) (record { mode = mode; frames = fs })
+blank_taken_at mode fs at k [] waits some is le all = absurd (omega arith)
+blank_taken_at mode fs at k (b ∷ bs) waits some is le all =
+    let rest : take (length (b ∷ bs) - 1) (drop 1 (b ∷ bs)) ≡ drop 1 (b ∷ bs) = rest_is 1 (b ∷ bs) some in
+    let within : k ≤ length bs = omega (arith, le, ap length (rest_is 1 (b ∷ bs) some)) in
+    blank_taken mode mode fs at b k bs refl waits is within (subst (λ (w : List ℕ). IsSpace (take k w)) rest all)
 
 pub blank_then_ok : (mode : Mode) (fs : Frames) (at b k : ℕ) (bytes : List ℕ) (z : State) → Waits mode fs → b ≤ length bytes → IsSpace (take b bytes)
     → Reaches (take (length bytes - b) (drop b bytes)) (at + b) (record { mode = mode; frames = fs }) (Ok k) z → Reaches bytes at (record { mode = mode; frames = fs }) (Ok (b + k)) z

@@ -188,6 +188,7 @@ impl Reader {
     }
 
     /// Values mostly follow one another with the mode unchanged, and letting an old mode go costs time.
+    #[inline(always)]
     fn await_value(&mut self)
         ensures { state_of self.new ≡ record { mode = modes.Value; frames = frames_of self.old } }
     {

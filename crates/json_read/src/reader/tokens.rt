@@ -101,21 +101,6 @@ impl Reader {
         Ok(1)
     }
 
-    fn after_byte(
-        &mut self,
-        value: Json,
-        at: usize,
-        byte: u8,
-        tail: &[u8],
-    ) -> Result<usize, JsonFault>
-        ensures { Takes (byte ∷ tail.now) at (record { mode = modes.After value; frames = frames_of self.old }) result (state_of self.new) }
-    {
-        match self.after(value, byte) {
-            Ok(()) => Ok(1),
-            Err(refusal) => Err(placed(refusal, at as u64)),
-        }
-    }
-
     /// At a name, after its opening quote: the name, its colon and white space.
     fn take_name(
         &mut self,
@@ -244,7 +229,14 @@ impl Reader {
                 Ok(0)
             }
             [b',', after @ ..] => self.comma(value, at, after),
-            [byte, tail @ ..] => self.after_byte(value, at, *byte, tail),
+            [byte, tail @ ..] if is_blank(*byte) => {
+                self.mode = Mode::After(value);
+                Ok(1 + blank_length(tail))
+            }
+            [byte, ..] => match self.after(value, *byte) {
+                Ok(()) => Ok(1),
+                Err(refusal) => Err(placed(refusal, at as u64)),
+            },
         }
     }
 
