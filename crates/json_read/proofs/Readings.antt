@@ -1,5 +1,5 @@
 -- Reading on in a string goes as the machine runs.
-use Rattle.std.proofs.Common.{◌≡◌, ◌≢◌, ℕ, zero, suc, ◌+◌, ◌<◌, ◌≤◌, false, List, [], ◌∷◌, ◌++◌, length, take, drop, get_or, add-one, Option, Some, Result, Ok, Err, refl, sym, ap, subst, ◌∙◌, arith, append_assoc}
+use Rattle.std.proofs.Common.{◌≡◌, ◌≢◌, ℕ, suc, ◌+◌, ◌<◌, ◌≤◌, false, List, [], ◌∷◌, ◌++◌, length, take, drop, get_or, add-one, Some, Ok, Err, refl, sym, ap, subst, ◌∙◌, arith, append_assoc}
 use Rattle.std.specs.Prelude.{◌-◌, IsUtf8, encode_utf8}
 use Rattle.std.proofs.lemmas.List.{append-nil, take-append-drop, length-take-le, length-drop}
 use Rattle.std.proofs.Math.Seq.{take-add, take-suc, drop-cons, take-length}
@@ -7,7 +7,6 @@ use Rattle.json_value.specs.declared.tree.Json.TheVariants as j
 use Rattle.json_read.specs.declared.refusal.Refusal.{Refusal}
 use Rattle.json_read.specs.declared.refusal.Refusal.TheVariants as e
 use Rattle.json_value.specs.declared.fault.JsonFault.{JsonFault}
-use Rattle.json_value.specs.declared.fault.JsonFault.TheVariants as faults
 use Rattle.json_read.specs.declared.reader.Mode.TheVariants as m
 use Rattle.json_read.specs.declared.string.Part.{Part}
 use Rattle.json_read.specs.declared.string.Part.TheVariants as p
@@ -19,9 +18,9 @@ use Rattle.json_read.specs.declared.string.Quad.TheVariants as quads
 use Rattle.json_value.specs.Strings.{hex_digit, is_high, is_low, four_digits}
 use Rattle.json_read.specs.Scan.{Scanned, Unescaped, grow, hex_grown, escape_scan, unit_scan, scan}
 use Rattle.json_read.proofs.TextsGo.{digit_steps}
-use Rattle.exact_read.specs.Steps.{run, on_step}
-use Rattle.json_read.specs.Machine.{State, Frames, step, str_by, placed, whole}
-use Rattle.json_read.specs.Tokens.{Takes, Reading, Open, Closed, Failed, reading_by, reading, ReadsOn, RunsOn, Writes}
+use Rattle.exact_read.specs.Steps.{run}
+use Rattle.json_read.specs.Machine.{State, Frames, step, placed, whole}
+use Rattle.json_read.specs.Tokens.{Takes, Open, Closed, Failed, reading_by, reading, ReadsOn, RunsOn, Writes}
 use Rattle.json_read.specs.declared.reader.text.Read.{Read}
 use Rattle.json_read.specs.declared.reader.text.Read.TheVariants as r
 use Rattle.json_read.proofs.PlainRuns.{str_after, str_run, one_scan, unescaped_reading, rest_is}

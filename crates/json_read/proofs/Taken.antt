@@ -1,9 +1,9 @@
 -- What is taken at once is what the machine takes byte by byte.
 use Rattle.std.proofs.Common.{◌≡◌, ◌≢◌, ℕ, zero, suc, ◌+◌, ◌-◌, ◌<◌, ◌≤◌, Bool, true, false, cond, List, [], ◌∷◌, ◌++◌, length, take, drop, get_or, add-one, Option, Some, None, Result, Ok, Err, refl, sym, ap, subst, ◌∙◌, arith, append_assoc, ◌⊎◌, inl, inr}
-use Rattle.std.specs.Prelude.{◌==◌, ◌||◌, reverse, IsUtf8, IfOk}
+use Rattle.std.specs.Prelude.{◌==◌, ◌||◌, reverse, nat_lt, IsUtf8, IfOk}
 use Rattle.std.proofs.lemmas.List.{append-nil, take-append-drop, length-take-le, length-drop, drop_all, drop-drop, reverse-append}
 use Rattle.std.proofs.lemmas.Bool.{ne_eqb, eqb-true, cases_lt}
-use Rattle.std.proofs.Math.Seq.{take-add, take-suc, drop-cons, take-length}
+use Rattle.std.proofs.Math.Seq.{take-add, take-suc, drop-cons}
 use Rattle.json_value.specs.declared.tree.Json.{Json}
 use Rattle.json_value.specs.declared.tree.Json.TheVariants as j
 use Rattle.json_read.specs.declared.refusal.Refusal.{Refusal}
@@ -23,10 +23,9 @@ use Rattle.json_value.specs.Grammar.{strict, has, is_blank, IsSpace}
 use Rattle.json_read.specs.Numbers.{number_start, number_next, may_end}
 use Rattle.json_read.specs.Scan.{scan, plain_scan}
 use Rattle.exact_read.specs.Steps.{run, on_step}
-use Rattle.json_read.specs.Machine.{State, Frames, Pairs, Outcome, to, step, placed, whole, begin, value_step, first_step, after_by, after_step, unless_blank, number_go, number_step, word_step, letters, meant, first_name_step, next_name_step, named, colon_step}
+use Rattle.json_read.specs.Machine.{State, Frames, Pairs, Outcome, to, step, placed, whole, open_by, begin, value_step, first_step, after_by, after_step, number_go, number_step, word_step, letters, meant, first_name_step, next_name_step, named, colon_step}
 use Rattle.json_read.specs.Tokens.{Takes, Reaches, is_close, Follows, Stops}
-use Rattle.json_read.specs.Left.{HoldsText, TextLeft}
-use Rattle.json_value.specs.Strings.{Chars, end}
+use Rattle.json_value.specs.Strings.{end}
 use Rattle.json_read.proofs.Held.{run_holds}
 use Rattle.json_read.proofs.Utf8.{plain_holds, number_ends}
 use Rattle.json_read.proofs.PlainRuns.{plain_runs, naming_runs, rest_is}
@@ -58,6 +57,15 @@ pub after_refused : (b : ℕ) (bs : List ℕ) (at : ℕ) (v : Json) (fs : Frames
     → Takes (b ∷ bs) at (record { mode = m.After v; frames = fs }) (Err fault) y
 unfolding step
 after_refused b bs at v fs y why fault is fails = one_refused b bs at (record { mode = m.After v; frames = fs }) y why fault is fails
+
+pub after_taken_at : (bytes : List ℕ) (at : ℕ) (v : Json) (fs : Frames) (y : State) → 1 ≤ length bytes → after_step fs v (get_or bytes 0 0) ≡ Ok y → Takes bytes at (record { mode = m.After v; frames = fs }) (Ok 1) y
+after_taken_at [] at v fs y some is = absurd (omega arith)
+after_taken_at (b ∷ bs) at v fs y some is = after_taken b bs at v fs y is
+
+pub after_refused_at : (bytes : List ℕ) (at : ℕ) (v : Json) (fs : Frames) (y : State) (why : Refusal) (fault : JsonFault) → 1 ≤ length bytes → fault ≡ placed why at → (why ≢ e.Memory → after_step fs v (get_or bytes 0 0) ≡ Err why)
+    → Takes bytes at (record { mode = m.After v; frames = fs }) (Err fault) y
+after_refused_at [] at v fs y why fault some is fails = absurd (omega arith)
+after_refused_at (b ∷ bs) at v fs y why fault some is fails = after_refused b bs at v fs y why fault is fails
 
 pub comma_by : (fs : Frames) (v : Json) → after_step fs v 44 ≡ after_by fs v 44
 unfolding after_step
@@ -139,6 +147,10 @@ pub next_name_waits : (ms : Pairs) (fs : Frames) → Waits (m.NextName ms) fs
 unfolding step next_name_step
 next_name_waits ms fs at b is = rw is refl
 
+pub after_waits : (v : Json) (fs : Frames) → Waits (m.After v) fs
+unfolding step after_step
+after_waits v fs at b is = rw is refl
+
 pub blank_taken : (mode mode' : Mode) (fs : Frames) (at b k : ℕ) (bs : List ℕ) → mode ≡ mode' → Waits mode' fs → is_blank b ≡ true → k ≤ length bs → IsSpace (take k bs)
     → Takes (b ∷ bs) at (record { mode = mode; frames = fs }) (Ok (1 + k)) (record { mode = mode; frames = fs })
 blank_taken mode mode' fs at b k bs same waits is le all =
@@ -148,6 +160,14 @@ blank_taken mode mode' fs at b k bs same waits is le all =
       ap (λ (q : ℕ). run (step strict) (take q (b ∷ bs)) at (record { mode = mode'; frames = fs })) (let one : 1 + k ≡ suc k = omega arith in one)
           ∙ blank_runs mode' fs waits (b ∷ take k bs) at (is, all),
     )
+
+pub blank_taken_at : (mode : Mode) (fs : Frames) (at k : ℕ) (bytes : List ℕ) → Waits mode fs → 1 ≤ length bytes → is_blank (get_or bytes 0 0) ≡ true → k ≤ length (take (length bytes - 1) (drop 1 bytes)) → IsSpace (take k (take (length bytes - 1) (drop 1 bytes)))
+    → Takes bytes at (record { mode = mode; frames = fs }) (Ok (1 + k)) (record { mode = mode; frames = fs })
+blank_taken_at mode fs at k [] waits some is le all = absurd (omega arith)
+blank_taken_at mode fs at k (b ∷ bs) waits some is le all =
+    let rest : take (length (b ∷ bs) - 1) (drop 1 (b ∷ bs)) ≡ drop 1 (b ∷ bs) = rest_is 1 (b ∷ bs) some in
+    let within : k ≤ length bs = omega (arith, le, ap length (rest_is 1 (b ∷ bs) some)) in
+    blank_taken mode mode fs at b k bs refl waits is within (subst (λ (w : List ℕ). IsSpace (take k w)) rest all)
 
 pub blank_then_ok : (mode : Mode) (fs : Frames) (at b k : ℕ) (bytes : List ℕ) (z : State) → Waits mode fs → b ≤ length bytes → IsSpace (take b bytes)
     → Reaches (take (length bytes - b) (drop b bytes)) (at + b) (record { mode = mode; frames = fs }) (Ok k) z → Reaches bytes at (record { mode = mode; frames = fs }) (Ok (b + k)) z
@@ -558,3 +578,69 @@ pub takes_fault : (bytes : List ℕ) (at : ℕ) (x y : State) (total : Result St
 takes_fault bytes at x y total fault lt failed so_far not =
     let now : Takes (drop at bytes) at x (Err fault) y = subst (λ (w : List ℕ). Takes w at x (Err fault) y) (rest_is at bytes (omega arith)) failed in
     ap whole (sym so_far) ∙ now not
+
+-- what opens in the place of a value
+open_step : (mode : Mode) (fs : Frames) (at b : ℕ) (next : Mode) → mode ≡ m.Value → is_blank b ≡ false → begin 64 fs b ≡ open_by 64 next fs → nat_lt (length fs) 64 ≡ true
+    → step strict at (record { mode = mode; frames = fs }) b ≡ Ok (record { mode = next; frames = fs })
+unfolding step value_step open_by
+open_step mode fs at b next is not_blank opens may = ap (λ (q : Mode). step strict at (record { mode = q; frames = fs }) b) is ∙ (rw not_blank (opens ∙ (rw may refl)))
+
+object_begins : (fs : Frames) → begin 64 fs 123 ≡ open_by 64 m.FirstName fs
+unfolding begin
+object_begins fs = refl
+
+list_begins : (fs : Frames) → begin 64 fs 91 ≡ open_by 64 m.First fs
+unfolding begin
+list_begins fs = refl
+
+pub open_deep : (mode : Mode) (fs : Frames) (at b : ℕ) (bs : List ℕ) (next : Mode) (z : State) → mode ≡ m.Value → is_blank b ≡ false → begin 64 fs b ≡ open_by 64 next fs → nat_lt (length fs) 64 ≡ false
+    → Takes (b ∷ bs) at (record { mode = mode; frames = fs }) (Err (faults.Deep at)) z
+unfolding open_by
+open_deep mode fs at b bs next z is not_blank opens deep = value_refused mode fs at b bs z e.Deep (faults.Deep at) is not_blank refl (λ _. opens ∙ (rw deep refl))
+
+pub object_deep : (mode : Mode) (fs : Frames) (at : ℕ) (bs : List ℕ) (z : State) → mode ≡ m.Value → nat_lt (length fs) 64 ≡ false → Takes (123 ∷ bs) at (record { mode = mode; frames = fs }) (Err (faults.Deep at)) z
+object_deep mode fs at bs z is deep = open_deep mode fs at 123 bs m.FirstName z is refl (object_begins fs) deep
+
+pub list_deep : (mode : Mode) (fs : Frames) (at : ℕ) (bs : List ℕ) (z : State) → mode ≡ m.Value → nat_lt (length fs) 64 ≡ false → Takes (91 ∷ bs) at (record { mode = mode; frames = fs }) (Err (faults.Deep at)) z
+list_deep mode fs at bs z is deep = open_deep mode fs at 91 bs m.First z is refl (list_begins fs) deep
+
+pub object_open : (mode : Mode) (fs : Frames) (at : ℕ) (bs : List ℕ) → mode ≡ m.Value → nat_lt (length fs) 64 ≡ true → Takes (123 ∷ bs) at (record { mode = mode; frames = fs }) (Ok 1) (record { mode = m.FirstName; frames = fs })
+object_open mode fs at bs is may = one_taken 123 bs at _ _ (open_step mode fs at 123 m.FirstName is refl (object_begins fs) may)
+
+begun_ok : (b : ℕ) (bs : List ℕ) (at k : ℕ) (x y z : State) → step strict at x b ≡ Ok y → Takes bs (at + 1) y (Ok k) z → Takes (b ∷ bs) at x (Ok (1 + k)) z
+unfolding run
+begun_ok b bs at k x y z is next =
+    then_ok (b ∷ bs) bs 1 k at x y z refl (omega arith) (omega arith) (ap (λ (o : Outcome). on_step (step strict) at o (run (step strict) [] (at + 1))) is) next
+
+begun_err : (b : ℕ) (bs : List ℕ) (at : ℕ) (x y z z' : State) (fault : JsonFault) → step strict at x b ≡ Ok y → Takes bs (at + 1) y (Err fault) z' → Takes (b ∷ bs) at x (Err fault) z
+unfolding run
+begun_err b bs at x y z z' fault is failed =
+    then_err (b ∷ bs) bs 1 at x y z z' fault refl (omega arith) (ap (λ (o : Outcome). on_step (step strict) at o (run (step strict) [] (at + 1))) is) failed
+
+pub object_then_ok : (mode : Mode) (fs : Frames) (ms : Pairs) (at k : ℕ) (bs : List ℕ) (z : State) → mode ≡ m.Value → nat_lt (length fs) 64 ≡ true → ms ≡ [] → 0 < k → Reaches (34 ∷ bs) (at + 1) (record { mode = m.NextName ms; frames = fs }) (Ok k) z
+    → Takes (123 ∷ (34 ∷ bs)) at (record { mode = mode; frames = fs }) (Ok (1 + k)) z
+object_then_ok mode fs ms at k bs z is may none_yet some reached =
+    begun_ok 123 (34 ∷ bs) at k _ (record { mode = m.FirstName; frames = fs }) z (open_step mode fs at 123 m.FirstName is refl (object_begins fs) may) (first_name_as m.FirstName fs ms (at + 1) 34 bs (Ok k) z refl none_yet refl some reached)
+
+pub object_then_err : (mode : Mode) (fs : Frames) (ms : Pairs) (at : ℕ) (bs : List ℕ) (z z' : State) (fault : JsonFault) → mode ≡ m.Value → nat_lt (length fs) 64 ≡ true → ms ≡ [] → Reaches (34 ∷ bs) (at + 1) (record { mode = m.NextName ms; frames = fs }) (Err fault) z'
+    → Takes (123 ∷ (34 ∷ bs)) at (record { mode = mode; frames = fs }) (Err fault) z
+object_then_err mode fs ms at bs z z' fault is may none_yet failed =
+    begun_err 123 (34 ∷ bs) at _ (record { mode = m.FirstName; frames = fs }) z z' fault (open_step mode fs at 123 m.FirstName is refl (object_begins fs) may) (first_name_as m.FirstName fs ms (at + 1) 34 bs (Err fault) z' refl none_yet refl tt failed)
+
+number_not_end : (b : ℕ) (start : Digit) → number_start b ≡ Some start → b ≡ 93 → ⊥
+number_not_end b start is same = never (subst (λ (c : ℕ). number_start c ≡ Some start) same is)
+  where
+    never : number_start 93 ≡ Some start → ⊥
+    never h = cc
+
+pub numbers_then_ok : (mode : Mode) (old new : Frames) (at b k : ℕ) (start : Digit) (bs : List ℕ) (z : State) → mode ≡ m.Value → nat_lt (length (reverse old)) 64 ≡ true → number_start b ≡ Some start → new ≡ old ++ (f.List [] ∷ [])
+    → Takes (b ∷ bs) (at + 1) (record { mode = mode; frames = reverse new }) (Ok k) z → Takes (91 ∷ (b ∷ bs)) at (record { mode = mode; frames = reverse old }) (Ok (1 + k)) z
+numbers_then_ok mode old new at b k start bs z is may starts pushed taken =
+    begun_ok 91 (b ∷ bs) at k _ (record { mode = m.First; frames = reverse old }) z (open_step mode (reverse old) at 91 m.First is refl (list_begins (reverse old)) may)
+    (first_pushed old new m.First (at + 1) b bs (Ok k) z refl pushed (number_not_blank b start starts) (number_not_end b start starts) (subst (λ (q : Mode). Takes (b ∷ bs) (at + 1) (record { mode = q; frames = reverse new }) (Ok k) z) is taken))
+
+pub numbers_then_err : (mode : Mode) (old new : Frames) (at b : ℕ) (start : Digit) (bs : List ℕ) (z z' : State) (fault : JsonFault) → mode ≡ m.Value → nat_lt (length (reverse old)) 64 ≡ true → number_start b ≡ Some start → new ≡ old ++ (f.List [] ∷ [])
+    → Takes (b ∷ bs) (at + 1) (record { mode = mode; frames = reverse new }) (Err fault) z' → Takes (91 ∷ (b ∷ bs)) at (record { mode = mode; frames = reverse old }) (Err fault) z
+numbers_then_err mode old new at b start bs z z' fault is may starts pushed failed =
+    begun_err 91 (b ∷ bs) at _ (record { mode = m.First; frames = reverse old }) z z' fault (open_step mode (reverse old) at 91 m.First is refl (list_begins (reverse old)) may)
+    (first_pushed old new m.First (at + 1) b bs (Err fault) z' refl pushed (number_not_blank b start starts) (number_not_end b start starts) (subst (λ (q : Mode). Takes (b ∷ bs) (at + 1) (record { mode = q; frames = reverse new }) (Err fault) z') is failed))

@@ -1,5 +1,5 @@
 -- What may be taken of the bytes at once: as much as the machine takes byte by byte.
-use Rattle.std.specs.Prelude.{◌≡◌, ◌≢◌, ◌≤◌, ◌<◌, ◌+◌, ◌==◌, ◌||◌, ℕ, Bool, true, false, List, [], ◌∷◌, ◌++◌, length, take, Option, Some, None, Result, Ok, Err, encode_utf8}
+use Rattle.std.specs.Prelude.{◌≡◌, ◌≢◌, ◌≤◌, ◌<◌, ◌+◌, ◌==◌, ◌||◌, ℕ, Bool, false, List, [], ◌∷◌, ◌++◌, length, take, Some, None, Result, Ok, Err, encode_utf8}
 use Rattle.json_value.specs.declared.fault.JsonFault.{JsonFault}
 use Rattle.json_value.specs.declared.fault.JsonFault.TheVariants as faults
 use Rattle.json_read.specs.declared.number.Digit.{Digit}
@@ -12,7 +12,7 @@ use Rattle.json_read.specs.declared.reader.Mode.TheVariants as m
 use Rattle.json_read.specs.declared.reader.text.Read.{Read}
 use Rattle.json_read.specs.declared.reader.text.Read.TheVariants as r
 use Rattle.json_read.specs.declared.string.Progress.TheVariants as s
-use Rattle.json_value.specs.Grammar.{strict, is_blank, IsSpace}
+use Rattle.json_value.specs.Grammar.{strict}
 use Rattle.json_read.specs.Numbers.{number_next}
 use Rattle.json_read.specs.Scan.{Scanned, scan}
 use Rattle.exact_read.specs.Steps.{run}

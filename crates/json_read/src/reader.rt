@@ -1,4 +1,4 @@
-ghost use Rattle.std.specs.Prelude.{◌≡◌, [], ◌∷◌, ◌++◌, ◌<◌, length, slice_index, IfOk, IfErr, MatchResult, true, false, ℕ};
+ghost use Rattle.std.specs.Prelude.{◌≡◌, [], ◌∷◌, ◌++◌, ◌<◌, length, slice_index, IfOk, IfErr, MatchResult, nat_lt, true, false, ℕ};
 ghost use Rattle.json_read.specs.Machine as spec;
 ghost use Rattle.json_value.specs.Grammar as grammar;
 ghost use Rattle.json_value.specs.Grammar.{IsText, strict};
@@ -98,11 +98,17 @@ fn meant(word: Word) -> Json
 }
 
 impl Reader {
+    fn may_open(&self) -> bool
+        ensures { result ≡ nat_lt (length (frames_of self.now)) 64 }
+    {
+        self.frames.len() < MAX_DEPTH
+    }
+
     #[tactic(auto, unfolding(crate::specs::Machine::open_by))]
     fn open(&mut self, mode: Mode) -> Result<(), Refusal>
         ensures { spec.Steps (spec.open_by 64 mode (frames_of self.old)) result (state_of self.new) }
     {
-        if self.frames.len() >= MAX_DEPTH {
+        if !self.may_open() {
             return Err(Refusal::Deep);
         }
         self.mode = mode;
@@ -182,6 +188,7 @@ impl Reader {
     }
 
     /// Values mostly follow one another with the mode unchanged, and letting an old mode go costs time.
+    #[inline(always)]
     fn await_value(&mut self)
         ensures { state_of self.new ≡ record { mode = modes.Value; frames = frames_of self.old } }
     {

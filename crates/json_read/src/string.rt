@@ -108,12 +108,6 @@ fn is_within(low: u8, high: u8, byte: u8) -> bool
     low <= byte && byte <= high
 }
 
-fn is_tail(byte: u8) -> bool
-    ensures { result ≡ strings.is_tail byte }
-{
-    is_within(128, 191, byte)
-}
-
 /// The length of the character that the bytes begin with, or 0 where it is not whole.
 #[tactic(auto, using(crate::proofs::PlainRuns::nothing_unescaped))]
 fn wide_length(first: u8, tail: Tail, rest: &[u8]) -> usize
@@ -123,9 +117,12 @@ fn wide_length(first: u8, tail: Tail, rest: &[u8]) -> usize
 {
     match (tail, rest) {
         (Tail::One(low, high), [b, ..]) if is_within(low, high, *b) => 2,
-        (Tail::Two(low, high), [b, c, ..]) if is_within(low, high, *b) && is_tail(*c) => 3,
+        (Tail::Two(low, high), [b, c, ..]) if is_within(low, high, *b) && is_within(128, 191, *c) =>
+            3,
         (Tail::Three(low, high), [b, c, d, ..])
-            if is_within(low, high, *b) && is_tail(*c) && is_tail(*d) => { 4 }
+            if is_within(low, high, *b) && is_within(128, 191, *c) && is_within(128, 191, *d) => {
+            4
+        }
         _ => 0,
     }
 }

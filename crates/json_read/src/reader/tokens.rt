@@ -101,21 +101,6 @@ impl Reader {
         Ok(1)
     }
 
-    fn after_byte(
-        &mut self,
-        value: Json,
-        at: usize,
-        byte: u8,
-        tail: &[u8],
-    ) -> Result<usize, JsonFault>
-        ensures { Takes (byte ∷ tail.now) at (record { mode = modes.After value; frames = frames_of self.old }) result (state_of self.new) }
-    {
-        match self.after(value, byte) {
-            Ok(()) => Ok(1),
-            Err(refusal) => Err(placed(refusal, at as u64)),
-        }
-    }
-
     /// At a name, after its opening quote: the name, its colon and white space.
     fn take_name(
         &mut self,
@@ -246,7 +231,14 @@ impl Reader {
                 Ok(0)
             }
             [b',', after @ ..] => self.comma(value, at, after),
-            [byte, tail @ ..] => self.after_byte(value, at, *byte, tail),
+            [byte, tail @ ..] if is_blank(*byte) => {
+                self.mode = Mode::After(value);
+                Ok(1 + blank_length(tail))
+            }
+            [byte, ..] => match self.after(value, *byte) {
+                Ok(()) => Ok(1),
+                Err(refusal) => Err(placed(refusal, at as u64)),
+            },
         }
     }
 
@@ -329,6 +321,65 @@ impl Reader {
         }
     }
 
+    /// At a value, after the bracket and the quote that an object begins with.
+    fn object_read(&mut self, at: usize, tail: &[u8]) -> Result<usize, JsonFault>
+        requires place { at + length tail.now + 2 < 2 ^ 64 }
+        requires mode { self.old.mode ≡ modes.Value }
+        ensures { Takes (123 ∷ (34 ∷ tail.now)) at (state_of self.old) result (state_of self.new) }
+    {
+        if !self.may_open() {
+            return Err(JsonFault::Deep(at as u64));
+        }
+        let Some(n) = plain_name(tail) else {
+            self.mode = Mode::FirstName;
+            return Ok(1);
+        };
+        match self.take_name(Members::new(self.alloc), at + 1, n, tail) {
+            Ok(k) => Ok(1 + k),
+            Err(fault) => Err(fault),
+        }
+    }
+
+    /// At a value, after the bracket and the first byte that a list of numbers begins with.
+    fn numbers_read(
+        &mut self,
+        at: usize,
+        byte: u8,
+        start: Digit,
+        tail: &[u8],
+    ) -> Result<usize, JsonFault>
+        requires place { at + length tail.now + 2 < 2 ^ 64 }
+        requires mode { self.old.mode ≡ modes.Value }
+        requires start { number_start byte ≡ Some start }
+        ensures { Takes (91 ∷ (byte ∷ tail.now)) at (state_of self.old) result (state_of self.new) }
+    {
+        if !self.may_open() {
+            return Err(JsonFault::Deep(at as u64));
+        }
+        self.frames.push(Frame::List(Items::new(self.alloc)))?;
+        match self.take_number(at + 1, byte, start, tail) {
+            Ok(k) => Ok(1 + k),
+            Err(fault) => Err(fault),
+        }
+    }
+
+    /// At a value, after the bracket that a list begins with.
+    fn list_read(&mut self, at: usize, tail: &[u8]) -> Result<usize, JsonFault>
+        requires place { at + length tail.now + 1 < 2 ^ 64 }
+        requires mode { self.old.mode ≡ modes.Value }
+        ensures { Takes (91 ∷ tail.now) at (state_of self.old) result (state_of self.new) }
+    {
+        if let [byte, rest @ ..] = tail {
+            if let Some(start) = number_start(*byte) {
+                return self.numbers_read(at, *byte, start, rest);
+            }
+        }
+        match self.begin(b'[') {
+            Ok(()) => Ok(1),
+            Err(refusal) => Err(placed(refusal, at as u64)),
+        }
+    }
+
     /// At a value that is neither a string nor a number.
     fn take_word(&mut self, at: usize, byte: u8, tail: &[u8]) -> Result<usize, JsonFault>
         requires place { at + length tail.now + 1 < 2 ^ 64 }
@@ -337,6 +388,8 @@ impl Reader {
         ensures { Takes (byte ∷ tail.now) at (state_of self.old) result (state_of self.new) }
     {
         match (byte, tail) {
+            (b'[', _) => self.list_read(at, tail),
+            (b'{', [b'"', after @ ..]) => self.object_read(at, after),
             (b'n', [b'u', b'l', b'l', after @ ..]) => self.word_read(Word::Null, at, after),
             (b't', [b'r', b'u', b'e', after @ ..]) => self.word_read(Word::True, at, after),
             (b'f', [b'a', b'l', b's', b'e', after @ ..]) => self.word_read(Word::False, at, after),

@@ -1,4 +1,4 @@
-use Rattle.std.proofs.Common.{sym, ◌∙◌, arith, length}
+use Rattle.std.proofs.Common.{sym, ◌∙◌, arith}
 use Rattle.json_read.specs.Machine.{read_of}
 use Rattle.json_read.specs.View.{state_of}
 use Rattle.json_read.proofs.Held.{run_holds}

@@ -1,4 +1,4 @@
-use Rattle.std.proofs.Common.{arith, sym, ◌∙◌}
+use Rattle.std.proofs.Common.{sym, ◌∙◌}
 use Rattle.json_read.proofs.PlainRuns.{one_begun}
 use Rattle.json_read.proofs.string.char_length.Goals as goal
 

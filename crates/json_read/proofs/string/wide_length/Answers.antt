@@ -1,4 +1,4 @@
-use Rattle.std.proofs.Common.{◌≡◌, Some, arith, rules, sym, ◌∙◌}
+use Rattle.std.proofs.Common.{◌≡◌, Some, rules}
 use Rattle.json_read.specs.Scan.{lead}
 use Rattle.json_read.specs.declared.string.Tail.TheVariants as tails
 use Rattle.json_read.proofs.PlainRuns.{two_begun, three_begun, four_begun}

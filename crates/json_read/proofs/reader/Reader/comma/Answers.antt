@@ -1,6 +1,6 @@
 use Rattle.std.proofs.Common.{[], ◌∷◌, ◌++◌, ap, ◌∙◌}
 use Rattle.json_read.specs.declared.reader.Frame.{Frame}
-use Rattle.json_read.specs.View.{state_of, frames_of}
+use Rattle.json_read.specs.View.{state_of}
 use Rattle.json_read.proofs.Taken.{comma_none, comma_item}
 use Rattle.json_read.proofs.reader.Reader.comma.Goals as goal
 

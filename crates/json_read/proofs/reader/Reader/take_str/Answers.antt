@@ -1,4 +1,3 @@
-use Rattle.std.proofs.Common.{arith}
 use Rattle.json_read.specs.View.{state_of, frames_of}
 use Rattle.json_read.proofs.Readings.{str_closed, str_closed_err, str_open, str_failed, closed_utf8, closed_as, is_closed, is_open}
 use Rattle.json_read.proofs.reader.Reader.take_str.Goals as goal

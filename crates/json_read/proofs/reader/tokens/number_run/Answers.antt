@@ -1,5 +1,5 @@
-use Rattle.std.proofs.Common.{sym, ◌∙◌}
-use Rattle.json_read.proofs.Taken.{follows_more, stops_here, stops_end}
+use Rattle.std.proofs.Common.{sym}
+use Rattle.json_read.proofs.Taken.{follows_more}
 use Rattle.json_read.proofs.reader.tokens.number_run.Goals as goal
 
 pub loop-i-preserved : goal.loop-i-preserved
