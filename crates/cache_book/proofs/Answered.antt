@@ -29,11 +29,11 @@ use Rattle.cache_model.specs.Journal.{Started, Kept, kept_at, remaining, starts,
 use Rattle.cache_model.specs.Soundness.{IsSound}
 use Rattle.cache_model.specs.Legal.{IsLegal, IsDue, IsDueBy, due_after}
 use Rattle.cache_model.specs.State.{State, IsLegalState, begun, turned}
-use Rattle.cache_book.specs.Step.{Pinned, Granted}
+use Rattle.cache_book.specs.Permits.{Pinned, Granted}
 use Rattle.cache_book.specs.Looking.{granted, Asked, AskedAll, LooksBy, bypass_mark, bypassed}
 use Rattle.cache_book.specs.Settling.{got_by, got_of, MayBy, IsOwed, Appends, Leaves, SettlesBy}
 use Rattle.cache_book.specs.Voiding.{VoidsBy, turning, tally_of}
-use Rattle.cache_book.specs.Calls.{Call, Begin, Look, Settle, Invalidate, Tally, Begun, Looked, Closed, Voided, Told, OutOfMemory, MayCall, IsStuck}
+use Rattle.cache_book.specs.Calls.{Call, Begin, Look, Settle, Invalidate, Tally, Begun, Looked, Closed, Voided, Tallied, OutOfMemory, MayCall, IsStuck}
 use Rattle.cache_model.proofs.Sound.{sound_of}
 use Rattle.cache_book.proofs.Asking.{asked_legal, asked_room}
 use Rattle.cache_book.proofs.Stepping.{room_of_look}
@@ -171,8 +171,8 @@ closed_found c e = absurd cc
 voided_found : (v : voided.Voided) → Voided v ≢ OutOfMemory
 voided_found v e = absurd cc
 
-told_found : (t : tally.Tally) → Told t ≢ OutOfMemory
-told_found t e = absurd cc
+tallied_found : (t : tally.Tally) → Tallied t ≢ OutOfMemory
+tallied_found t e = absurd cc
 
 pub not_stuck : (old : State) (call : Call) → IsLegalState old → MayCall old call → IsStuck old call → ⊥
 not_stuck old (Begin who) ok may stuck =
@@ -181,4 +181,4 @@ not_stuck old (Begin who) ok may stuck =
 not_stuck old (Look pass id asks now) ok may stuck = looks_stand (bypass_mark old pass (length asks)) old pass id asks now refl ok (λ answers new h. stuck (Looked answers) new (looked_found answers) h)
 not_stuck old (Settle p r) ok may stuck = settles_stand p.mark old p r may.0 (λ c new h. stuck (Closed c) new (closed_found c) h)
 not_stuck old (Invalidate who target) ok may stuck = voids_stand (turning old) old who target (λ v new h. stuck (Voided v) new (voided_found v) h)
-not_stuck old Tally ok may stuck = stuck (Told (tally_of old)) old (told_found (tally_of old)) (refl, refl)
+not_stuck old Tally ok may stuck = stuck (Tallied (tally_of old)) old (tallied_found (tally_of old)) (refl, refl)

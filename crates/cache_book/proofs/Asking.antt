@@ -1,6 +1,6 @@
 -- What an ask leaves of a legal journal.
 use Rattle.std.proofs.Common.{◌≡◌, ◌⊎◌, inl, inr, ℕ, ◌+◌, ◌<◌, ◌≤◌, Bool, true, false, List, [], ◌∷◌, ◌++◌, length, slice_get, Option, Some, None, refl, ap, sym, ◌∙◌, arith, subst, length-append, append_assoc}
-use Rattle.std.specs.Prelude.{if◌then◌else◌}
+use Rattle.std.specs.Prelude.{if◌then◌else◌, Result, Ok, Err, IfOk, OnErr}
 use Rattle.std.proofs.lemmas.List.{append-nil}
 use Rattle.std.proofs.lemmas.List.Sums.{sum_by_push}
 use Rattle.cache_terms.specs.declared.keys.Key.{Key}
@@ -11,7 +11,7 @@ use Rattle.cache_book.specs.declared.found.Found.{Found}
 use Rattle.cache_book.specs.declared.found.Found.TheVariants as found
 use Rattle.cache_model.specs.Journal.{reserved, starts, is_start, is_pending, IsChoice}
 use Rattle.cache_model.specs.Legal.{IsLegal, IsNext, HasStart}
-use Rattle.cache_book.specs.Step.{Pinned}
+use Rattle.cache_book.specs.Permits.{Pinned}
 use Rattle.cache_book.specs.Looking.{Asked}
 use Rattle.cache_model.proofs.Growth.{each_push, slice_get_push, slice_get_before, slice_get_end, reserved_push}
 use Rattle.cache_model.proofs.Legality.{started_push}
@@ -94,3 +94,9 @@ pub asked_appends : (pass : Pinned) (id : Option (List ℕ)) (now : ℕ) (key : 
 asked_appends pass id now key J (found.Hit l s v m b) K h = (Lookup pass.who key id now (Some s) ∷ [], h.after)
 asked_appends pass id now key J (found.Miss l p) K h = (Lookup pass.who key id now None ∷ Start pass.who (starts J) key id now ∷ [], h.after)
 asked_appends pass id now key J (found.Bypass p) K h = ([], h.after ∙ sym (append-nil J))
+
+-- a legal journal stays legal, whether the ask is answered or finds no memory
+pub answered_legal : {E : Type 0} (limits : Limits) (pass : Pinned) (id : Option (List ℕ)) (now : ℕ) (key : Key) (J K : List Event) (r : Result Found E)
+    → IsLegal limits J → length J + reserved J + 3 ≤ limits.events → IfOk r (λ a. Asked pass id now key J a K) → OnErr r (K ≡ J) → IsLegal limits K
+answered_legal limits pass id now key J K (Ok a) legal room ok err = asked_legal limits pass id now key J a K legal room ok
+answered_legal limits pass id now key J K (Err e) legal room ok err = subst (IsLegal limits) (sym err) legal

@@ -4,7 +4,7 @@ use Rattle.std.proofs.lemmas.List.{append-nil}
 use Rattle.cache_terms.specs.declared.keys.Key.{Key}
 use Rattle.cache_terms.specs.declared.events.Event.{Event}
 use Rattle.cache_book.specs.declared.found.Found.{Found}
-use Rattle.cache_book.specs.Step.{Pinned}
+use Rattle.cache_book.specs.Permits.{Pinned}
 use Rattle.cache_book.specs.Looking.{Asked, AskedAll}
 use Rattle.cache_model.proofs.Growth.{take_all}
 use Rattle.cache_book.proofs.Asking.{asked_appends}

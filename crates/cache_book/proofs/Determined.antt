@@ -23,11 +23,11 @@ use Rattle.cache_book.specs.declared.permit.Report.TheVariants as report
 use Rattle.cache_model.specs.Journal.{Started, Kept, kept_at, remaining, IsHeldUnder}
 use Rattle.cache_model.specs.Legal.{IsDue}
 use Rattle.cache_model.specs.State.{State, begun, turned}
-use Rattle.cache_book.specs.Step.{Pinned, Granted}
+use Rattle.cache_book.specs.Permits.{Pinned, Granted}
 use Rattle.cache_book.specs.Looking.{Asked, AskedAll, IsHit, Looks, LooksBy, bypass_mark}
 use Rattle.cache_book.specs.Settling.{Settles, SettlesBy, Appends, Leaves, got_by, got_of}
 use Rattle.cache_book.specs.Voiding.{Voids, VoidsBy, AppendsVoid, turning, tally_of}
-use Rattle.cache_book.specs.Calls.{Call, Answer, Step, Begin, Look, Settle, Invalidate, Tally, Begun, Looked, Closed, Voided, Told, OutOfMemory}
+use Rattle.cache_book.specs.Calls.{Call, Answer, Step, Begin, Look, Settle, Invalidate, Tally, Begun, Looked, Closed, Voided, Tallied, OutOfMemory}
 use Rattle.cache_model.proofs.Unique.{choice_unique, count_unique, due_by_unique}
 
 hit_unique : (pass : Pinned) (id : Option (List ℕ)) (now : ℕ) (key : Key) (J : List Event) (l l' q q' : ℕ) (v v' : List ℕ) (m m' : ℕ) (b b' : Bool) (K K' : List Event)
@@ -123,7 +123,7 @@ begin_answers old who (Begun p) new x = (ap (λ (q : Pinned). Begun q) (x.1 ∙ 
 begin_answers old who (Looked fs) new x = absurd x
 begin_answers old who (Closed c) new x = absurd x
 begin_answers old who (Voided v) new x = absurd x
-begin_answers old who (Told t) new x = absurd x
+begin_answers old who (Tallied t) new x = absurd x
 begin_answers old who OutOfMemory new x = absurd x
 
 look_answers : (old : State) (pass : Pinned) (id : Option (List ℕ)) (asks : List Key) (now : ℕ) (a : Answer) (new : State) → a ≢ OutOfMemory → Step old (Look pass id asks now) a new → (fs : List Found) × (a ≡ Looked fs) × Looks old pass id asks now fs new
@@ -131,7 +131,7 @@ look_answers old pass id asks now (Begun p) new ok x = absurd x
 look_answers old pass id asks now (Looked fs) new ok x = (fs, refl, x)
 look_answers old pass id asks now (Closed c) new ok x = absurd x
 look_answers old pass id asks now (Voided v) new ok x = absurd x
-look_answers old pass id asks now (Told t) new ok x = absurd x
+look_answers old pass id asks now (Tallied t) new ok x = absurd x
 look_answers old pass id asks now OutOfMemory new ok x = absurd (ok refl)
 
 settle_answers : (old : State) (p : Granted) (r : Report) (a : Answer) (new : State) → Step old (Settle p r) a new → (c : Settled) × (a ≡ Closed c) × Settles old p r c new
@@ -139,7 +139,7 @@ settle_answers old p r (Begun q) new x = absurd x
 settle_answers old p r (Looked fs) new x = absurd x
 settle_answers old p r (Closed c) new x = (c, refl, x)
 settle_answers old p r (Voided v) new x = absurd x
-settle_answers old p r (Told t) new x = absurd x
+settle_answers old p r (Tallied t) new x = absurd x
 settle_answers old p r OutOfMemory new x = absurd x
 
 invalidate_answers : (old : State) (who : ℕ) (target : Target) (a : Answer) (new : State) → Step old (Invalidate who target) a new → (v : voided.Voided) × (a ≡ Voided v) × Voids old who target v new
@@ -147,15 +147,15 @@ invalidate_answers old who target (Begun q) new x = absurd x
 invalidate_answers old who target (Looked fs) new x = absurd x
 invalidate_answers old who target (Closed c) new x = absurd x
 invalidate_answers old who target (Voided v) new x = (v, refl, x)
-invalidate_answers old who target (Told t) new x = absurd x
+invalidate_answers old who target (Tallied t) new x = absurd x
 invalidate_answers old who target OutOfMemory new x = absurd x
 
-tally_answers : (old : State) (a : Answer) (new : State) → Step old Tally a new → (a ≡ Told (tally_of old)) × (new ≡ old)
+tally_answers : (old : State) (a : Answer) (new : State) → Step old Tally a new → (a ≡ Tallied (tally_of old)) × (new ≡ old)
 tally_answers old (Begun q) new x = absurd x
 tally_answers old (Looked fs) new x = absurd x
 tally_answers old (Closed c) new x = absurd x
 tally_answers old (Voided v) new x = absurd x
-tally_answers old (Told t) new x = (ap (λ u. Told u) x.0, x.1)
+tally_answers old (Tallied t) new x = (ap (λ u. Tallied u) x.0, x.1)
 tally_answers old OutOfMemory new x = absurd x
 
 pub step_unique : (old : State) (call : Call) (a b : Answer) (new other : State) → a ≢ OutOfMemory → b ≢ OutOfMemory → Step old call a new → Step old call b other → (a ≡ b) × (new ≡ other)

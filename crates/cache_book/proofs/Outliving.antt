@@ -15,12 +15,12 @@ use Rattle.cache_book.specs.declared.answers.Voided as voided
 use Rattle.cache_book.specs.declared.found.Found.{Found}
 use Rattle.cache_book.specs.declared.permit.Report.{Report}
 use Rattle.cache_model.specs.State.{State, IsLegalState, begun, turned, turns}
-use Rattle.cache_book.specs.Step.{Pinned, Granted}
+use Rattle.cache_book.specs.Permits.{Pinned, Granted}
 use Rattle.cache_book.specs.Looking.{LooksBy, bypass_mark}
 use Rattle.cache_book.specs.Settling.{MaySettle, Appends, Leaves, SettlesBy, got_by}
 use Rattle.cache_book.specs.Voiding.{VoidsBy, turning}
 use Rattle.cache_book.specs.Owed.{AreOwed, KeepsOthers, KeepsPermits}
-use Rattle.cache_book.specs.Calls.{Call, Answer, Step, Begin, Look, Settle, Invalidate, Tally, Begun, Looked, Closed, Voided, Told, OutOfMemory, Spares}
+use Rattle.cache_book.specs.Calls.{Call, Answer, Step, Begin, Look, Settle, Invalidate, Tally, Begun, Looked, Closed, Voided, Tallied, OutOfMemory, Spares}
 use Rattle.cache_book.proofs.Owing.{asks_keep, asks_owed, permits_kept, bypassed_owed, others_kept, earlier_kept, voided_kept, mark_free}
 use Rattle.cache_book.proofs.Stepping.{room_of_look}
 
@@ -61,25 +61,25 @@ step_outlived old (Look pass id asks now) (Looked fs) new p h began spares may =
 step_outlived old (Look pass id asks now) OutOfMemory new p h began spares may = subst (λ (s : State). MaySettle s p) (sym h) may
 step_outlived old (Settle spent r) (Closed c) new p h began spares may = settles_outlived spent.mark old spent r c new refl h p spares may
 step_outlived old (Invalidate who target) (Voided v) new p h began spares may = voids_outlived (turning old) old who target v new p h began may
-step_outlived old Tally (Told t) new p h began spares may = subst (λ (s : State). MaySettle s p) (sym h.1) may
+step_outlived old Tally (Tallied t) new p h began spares may = subst (λ (s : State). MaySettle s p) (sym h.1) may
 step_outlived old (Begin who) (Looked fs) new p h began spares may = absurd h
 step_outlived old (Begin who) (Closed c) new p h began spares may = absurd h
 step_outlived old (Begin who) (Voided v) new p h began spares may = absurd h
-step_outlived old (Begin who) (Told t) new p h began spares may = absurd h
+step_outlived old (Begin who) (Tallied t) new p h began spares may = absurd h
 step_outlived old (Begin who) OutOfMemory new p h began spares may = absurd h
 step_outlived old (Look pass id asks now) (Begun q) new p h began spares may = absurd h
 step_outlived old (Look pass id asks now) (Closed c) new p h began spares may = absurd h
 step_outlived old (Look pass id asks now) (Voided v) new p h began spares may = absurd h
-step_outlived old (Look pass id asks now) (Told t) new p h began spares may = absurd h
+step_outlived old (Look pass id asks now) (Tallied t) new p h began spares may = absurd h
 step_outlived old (Settle spent r) (Begun q) new p h began spares may = absurd h
 step_outlived old (Settle spent r) (Looked fs) new p h began spares may = absurd h
 step_outlived old (Settle spent r) (Voided v) new p h began spares may = absurd h
-step_outlived old (Settle spent r) (Told t) new p h began spares may = absurd h
+step_outlived old (Settle spent r) (Tallied t) new p h began spares may = absurd h
 step_outlived old (Settle spent r) OutOfMemory new p h began spares may = absurd h
 step_outlived old (Invalidate who target) (Begun q) new p h began spares may = absurd h
 step_outlived old (Invalidate who target) (Looked fs) new p h began spares may = absurd h
 step_outlived old (Invalidate who target) (Closed c) new p h began spares may = absurd h
-step_outlived old (Invalidate who target) (Told t) new p h began spares may = absurd h
+step_outlived old (Invalidate who target) (Tallied t) new p h began spares may = absurd h
 step_outlived old (Invalidate who target) OutOfMemory new p h began spares may = absurd h
 step_outlived old Tally (Begun q) new p h began spares may = absurd h
 step_outlived old Tally (Looked fs) new p h began spares may = absurd h

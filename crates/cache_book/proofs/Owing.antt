@@ -18,17 +18,14 @@ use Rattle.cache_book.specs.declared.found.Found.TheVariants as found
 use Rattle.cache_model.specs.Journal.{Started, IsOpen, reserved, starts}
 use Rattle.cache_model.specs.Legal.{IsLegal, IsNext}
 use Rattle.cache_model.specs.State.{State}
-use Rattle.cache_book.specs.Step.{Pinned, Granted}
+use Rattle.cache_book.specs.Permits.{Pinned, Granted}
+use Rattle.cache_book.specs.Bounded.{KeepsOpen}
 use Rattle.cache_book.specs.Settling.{MayBy, MaySettle}
 use Rattle.cache_book.specs.Looking.{Asked, AskedAll, bypass_mark, bypassed, granted}
 use Rattle.cache_book.specs.Owed.{IsOwedAnswer, AreOwed, KeepsPermits, KeepsOthers, KeepsEarlier}
 use Rattle.cache_model.proofs.Growth.{each_push}
 use Rattle.cache_model.proofs.Tickets.{open_before, open_started}
 use Rattle.cache_book.proofs.Asking.{reserved_lookup, starts_lookup, asked_legal, asked_room}
-
--- what is open in J is open in K
-abbrev pub KeepsOpen : List Event → List Event → Type 0
-KeepsOpen J K = (t : ℕ) (s : Started) → IsOpen J t s → IsOpen K t s
 
 asked_keeps : (pass : Pinned) (id : Option (List ℕ)) (now : ℕ) (key : Key) (J : List Event) (answer : Found) (K : List Event) → Asked pass id now key J answer K → KeepsOpen J K
 asked_keeps pass id now key J (found.Hit l q v m b) K h t s o = subst (λ (M : List Event). IsOpen M t s) (sym h.after) (open_before J (Lookup pass.who key id now (Some q)) t s refl o)

@@ -14,7 +14,7 @@ use Rattle.cache_book.specs.declared.permit.Report.TheVariants as report
 use Rattle.cache_model.specs.Journal.{Started, start_of, IsOpen}
 use Rattle.cache_model.specs.Legal.{IsLegal, IsDue, HasValueIfStored, HasRange}
 use Rattle.cache_model.specs.State.{State}
-use Rattle.cache_book.specs.Step.{Granted}
+use Rattle.cache_book.specs.Permits.{Granted}
 use Rattle.cache_book.specs.Settling.{IsOwedTo, MayBy, MaySettle, IsOwed, IsInRange, got_by, Appends, Leaves, SettlesBy, Settles}
 use Rattle.cache_model.proofs.Growth.{reserved_settled}
 use Rattle.cache_model.proofs.Legality.{room_of, settled_legal}

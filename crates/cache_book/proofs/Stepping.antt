@@ -24,12 +24,12 @@ use Rattle.cache_model.specs.Journal.{Started, starts, start_of, reserved, IsOpe
 use Rattle.cache_model.specs.Legal.{IsLegal, IsDue}
 use Rattle.cache_model.specs.State.{State, IsWithinRanges, IsLegalState, opened, begun, turned, turns}
 use Rattle.cache_model.specs.Story.{who_of, Adds, Follows, Without, By}
-use Rattle.cache_book.specs.Step.{Pinned, Granted}
+use Rattle.cache_book.specs.Permits.{Pinned, Granted}
 use Rattle.cache_book.specs.Looking.{Asked, AskedAll, LooksBy, bypass_mark}
 use Rattle.cache_book.specs.Settling.{SettlesBy, Appends, Leaves, MaySettle, MayBy, IsOwed, IsOwedTo, IsInRange, got_by}
 use Rattle.cache_book.specs.Voiding.{VoidsBy, AppendsVoid, turning}
-use Rattle.cache_book.specs.Told.{AreNew, tickets_of}
-use Rattle.cache_book.specs.Calls.{Call, Answer, Step, Run, FoundMemory, MayCall, IsCaller, Begin, Look, Settle, Invalidate, Tally, Begun, Looked, Closed, Voided, Told, OutOfMemory}
+use Rattle.cache_book.specs.Shown.{AreNew, tickets_of}
+use Rattle.cache_book.specs.Calls.{Call, Answer, Step, Run, FoundMemory, MayCall, IsCaller, Begin, Look, Settle, Invalidate, Tally, Begun, Looked, Closed, Voided, Tallied, OutOfMemory}
 use Rattle.cache_model.proofs.Legality.{empty_legal, voided_legal}
 use Rattle.cache_model.proofs.StoryLaws.{adds_none, follows_refl, follows_trans, by_follows}
 use Rattle.cache_model.proofs.Quiet.{open_without}
@@ -105,25 +105,25 @@ step_by old (Look pass id asks now) (Looked fs) new k of h = subst (λ (n : ℕ)
 step_by old (Look pass id asks now) OutOfMemory new k of h = by_itself old new k h
 step_by old (Settle p r) (Closed c) new k of h = subst (λ (n : ℕ). By old new n) of (settles_by p.mark old p r c new h)
 step_by old (Invalidate who target) (Voided v) new k of h = subst (λ (n : ℕ). By old new n) of (voids_by (turning old) old who target v new h)
-step_by old Tally (Told t) new k of h = by_itself old new k h.1
+step_by old Tally (Tallied t) new k of h = by_itself old new k h.1
 step_by old (Begin who) (Looked fs) new k of h = absurd h
 step_by old (Begin who) (Closed c) new k of h = absurd h
 step_by old (Begin who) (Voided v) new k of h = absurd h
-step_by old (Begin who) (Told t) new k of h = absurd h
+step_by old (Begin who) (Tallied t) new k of h = absurd h
 step_by old (Begin who) OutOfMemory new k of h = absurd h
 step_by old (Look pass id asks now) (Begun q) new k of h = absurd h
 step_by old (Look pass id asks now) (Closed c) new k of h = absurd h
 step_by old (Look pass id asks now) (Voided v) new k of h = absurd h
-step_by old (Look pass id asks now) (Told t) new k of h = absurd h
+step_by old (Look pass id asks now) (Tallied t) new k of h = absurd h
 step_by old (Settle p r) (Begun q) new k of h = absurd h
 step_by old (Settle p r) (Looked fs) new k of h = absurd h
 step_by old (Settle p r) (Voided v) new k of h = absurd h
-step_by old (Settle p r) (Told t) new k of h = absurd h
+step_by old (Settle p r) (Tallied t) new k of h = absurd h
 step_by old (Settle p r) OutOfMemory new k of h = absurd h
 step_by old (Invalidate who target) (Begun q) new k of h = absurd h
 step_by old (Invalidate who target) (Looked fs) new k of h = absurd h
 step_by old (Invalidate who target) (Closed c) new k of h = absurd h
-step_by old (Invalidate who target) (Told t) new k of h = absurd h
+step_by old (Invalidate who target) (Tallied t) new k of h = absurd h
 step_by old (Invalidate who target) OutOfMemory new k of h = absurd h
 step_by old Tally (Begun q) new k of h = absurd h
 step_by old Tally (Looked fs) new k of h = absurd h
@@ -207,25 +207,25 @@ step_legal old (Look pass id asks now) (Looked fs) new ok may h = looks_legal (b
 step_legal old (Look pass id asks now) OutOfMemory new ok may h = subst IsLegalState (sym h) ok
 step_legal old (Settle p r) (Closed c) new ok may h = settles_legal p.mark old p r c new ok may.0 may.1 h
 step_legal old (Invalidate who target) (Voided v) new ok may h = voids_legal (turning old) old who target v new refl ok h
-step_legal old Tally (Told t) new ok may h = subst IsLegalState (sym h.1) ok
+step_legal old Tally (Tallied t) new ok may h = subst IsLegalState (sym h.1) ok
 step_legal old (Begin who) (Looked fs) new ok may h = absurd h
 step_legal old (Begin who) (Closed c) new ok may h = absurd h
 step_legal old (Begin who) (Voided v) new ok may h = absurd h
-step_legal old (Begin who) (Told t) new ok may h = absurd h
+step_legal old (Begin who) (Tallied t) new ok may h = absurd h
 step_legal old (Begin who) OutOfMemory new ok may h = absurd h
 step_legal old (Look pass id asks now) (Begun q) new ok may h = absurd h
 step_legal old (Look pass id asks now) (Closed c) new ok may h = absurd h
 step_legal old (Look pass id asks now) (Voided v) new ok may h = absurd h
-step_legal old (Look pass id asks now) (Told t) new ok may h = absurd h
+step_legal old (Look pass id asks now) (Tallied t) new ok may h = absurd h
 step_legal old (Settle p r) (Begun q) new ok may h = absurd h
 step_legal old (Settle p r) (Looked fs) new ok may h = absurd h
 step_legal old (Settle p r) (Voided v) new ok may h = absurd h
-step_legal old (Settle p r) (Told t) new ok may h = absurd h
+step_legal old (Settle p r) (Tallied t) new ok may h = absurd h
 step_legal old (Settle p r) OutOfMemory new ok may h = absurd h
 step_legal old (Invalidate who target) (Begun q) new ok may h = absurd h
 step_legal old (Invalidate who target) (Looked fs) new ok may h = absurd h
 step_legal old (Invalidate who target) (Closed c) new ok may h = absurd h
-step_legal old (Invalidate who target) (Told t) new ok may h = absurd h
+step_legal old (Invalidate who target) (Tallied t) new ok may h = absurd h
 step_legal old (Invalidate who target) OutOfMemory new ok may h = absurd h
 step_legal old Tally (Begun q) new ok may h = absurd h
 step_legal old Tally (Looked fs) new ok may h = absurd h

@@ -1,5 +1,5 @@
 -- What the answers of a look tell: new tickets, and nothing of another caller's own.
-use Rattle.std.proofs.Common.{◌≡◌, ℕ, ◌+◌, ◌*◌, ◌<◌, ◌≤◌, ◌==◌, Bool, true, false, List, [], ◌∷◌, ◌++◌, length, Option, Some, None, All, refl, ap, sym, ◌∙◌, arith, subst, append_assoc}
+use Rattle.std.proofs.Common.{◌≡◌, inl, inr, ℕ, ◌+◌, ◌*◌, ◌<◌, ◌≤◌, ◌==◌, Bool, true, false, List, [], ◌∷◌, ◌++◌, length, Option, Some, None, All, refl, ap, sym, ◌∙◌, arith, subst, append_assoc}
 use Rattle.std.specs.Prelude.{if◌then◌else◌, nat_lt, min, not, ◌^◌, ◌-◌}
 use Rattle.std.proofs.lemmas.Option.{same_Some, slice_get_within}
 use Rattle.std.proofs.lemmas.List.Elements.{All-cons, All-nil, All-contains, All-weaker}
@@ -12,15 +12,16 @@ use Rattle.cache_terms.specs.declared.events.Mark.{Mark}
 use Rattle.cache_terms.specs.declared.events.Mark.TheVariants as mark
 use Rattle.cache_book.specs.declared.found.Found.{Found}
 use Rattle.cache_book.specs.declared.found.Found.TheVariants as found
-use Rattle.cache_model.specs.Journal.{Started, start_of, starts, is_start, reserved}
+use Rattle.cache_model.specs.Journal.{Started, start_of, starts, is_start, reserved, Kept, kept_at, Serves, IsChoice}
+use Rattle.cache_model.specs.Masked.{is_foreign}
 use Rattle.cache_model.specs.Legal.{IsLegal, EachFits, IsNext}
 use Rattle.cache_model.specs.State.{State}
-use Rattle.cache_book.specs.Step.{Pinned, Granted}
+use Rattle.cache_book.specs.Permits.{Pinned, Granted}
 use Rattle.cache_book.specs.Looking.{Asked, AskedAll, bypass_mark, bypassed}
-use Rattle.cache_book.specs.Told.{ticket_of, tickets_of, AreNew, IsChosen, AreChosen}
+use Rattle.cache_book.specs.Shown.{ticket_of, tickets_of, AreNew, IsChosen, AreChosen}
 use Rattle.cache_model.proofs.Growth.{slice_get_before, take_before}
 use Rattle.cache_model.proofs.Tickets.{ticket_below}
-use Rattle.cache_model.proofs.Choosing.{SameFor, same_sym, choice_same, choice_masked}
+use Rattle.cache_model.proofs.Choosing.{SameFor, same_sym, own_is_seen, choice_same, choice_masked, masked_same}
 use Rattle.cache_model.proofs.Quiet.{quiet_same}
 use Rattle.cache_book.proofs.Asking.{asked_legal, asked_room}
 
@@ -125,8 +126,29 @@ asked_same limits pass id now key J (found.Miss l p) K each h =
     subst (SameFor id J) (sym grouped) (same_trans id J (J ++ e ∷ []) ((J ++ e ∷ []) ++ f ∷ []) (quiet_same id limits J e (each_front limits J (e ∷ []) front) tt) (quiet_same id limits (J ++ e ∷ []) f front tt))
 asked_same limits pass id now key J (found.Bypass p) K each h = subst (SameFor id J) (sym h.after) (same_refl id J)
 
+-- what is chosen is no other caller's own
+serves_seen : (J : List Event) (key : Key) (id scope : Option (List ℕ)) (now q : ℕ) (k : Kept) → kept_at J q ≡ Some k → is_foreign id scope ≡ false → Serves J key scope now q → is_foreign id k.scope ≡ false
+serves_seen J key id scope now q k is seen serves =
+    let same : serves.kept ≡ k = same_Some serves.kept k (sym serves.held.kept ∙ is) in
+    ap (λ (m : Kept). is_foreign id m.scope) (sym same) ∙ ap (is_foreign id) serves.scope_is ∙ seen
+
+chosen_seen : (J : List Event) (key : Key) (id : Option (List ℕ)) (now q : ℕ) (k : Kept) → kept_at J q ≡ Some k → IsChoice J key id now (Some q) → is_foreign id k.scope ≡ false
+chosen_seen J key None now q k is serves = serves_seen J key None None now q k is refl serves
+chosen_seen J key (Some id) now q k is (inl own) = serves_seen J key (Some id) (Some id) now q k is (own_is_seen id) own
+chosen_seen J key (Some id) now q k is (inr public) = serves_seen J key (Some id) None now q k is refl public.1
+
 is_chosen : (pass : Pinned) (id : Option (List ℕ)) (now : ℕ) (key : Key) (J0 J : List Event) (answer : Found) (K : List Event) → SameFor id J0 J → Asked pass id now key J answer K → IsChosen J0 id now key answer
-is_chosen pass id now key J0 J (found.Hit l q v m b) K s h = choice_masked J0 id key now (Some q) (choice_same id J J0 key now (Some q) (same_sym id J0 J s) h.choice)
+is_chosen pass id now key J0 J (found.Hit l q v m b) K s h =
+    let seen : is_foreign id h.kept.scope ≡ false = chosen_seen J key id now q h.kept h.kept_is h.choice in
+    let before : kept_at J0 q ≡ Some h.kept = s.back q h.kept h.kept_is seen in
+    record {
+      choice = choice_masked J0 id key now (Some q) (choice_same id J J0 key now (Some q) (same_sym id J0 J s) h.choice);
+      kept = h.kept;
+      kept_is = (masked_same J0 id).forth q h.kept before seen;
+      value_is = h.value_is;
+      left_is = h.left_is;
+      private_is = h.private_is;
+    }
 is_chosen pass id now key J0 J (found.Miss l p) K s h = choice_masked J0 id key now None (choice_same id J J0 key now None (same_sym id J0 J s) h.choice)
 is_chosen pass id now key J0 J (found.Bypass p) K s h = tt
 

@@ -8,7 +8,7 @@ use Rattle.cache_book.specs.declared.answers.Tally as tally
 use Rattle.cache_book.specs.declared.found.Found.{Found}
 use Rattle.cache_book.specs.declared.permit.Report.{Report}
 use Rattle.cache_model.specs.State.{State, begun}
-use Rattle.cache_book.specs.Step.{Pinned, Granted}
+use Rattle.cache_book.specs.Permits.{Pinned, Granted}
 use Rattle.cache_book.specs.Settling.{Settles, MaySettle, IsInRange}
 use Rattle.cache_book.specs.Looking.{Looks}
 use Rattle.cache_book.specs.Voiding.{Voids, tally_of}
@@ -28,7 +28,7 @@ pub data Answer : Type 0 where
   Looked : (answers : List Found) → Answer
   Closed : (settled : Settled) → Answer
   Voided : (answer : voided.Voided) → Answer
-  Told : (answer : tally.Tally) → Answer
+  Tallied : (answer : tally.Tally) → Answer
   OutOfMemory : Answer
 
 -- the caller, where the call is some caller's
@@ -46,7 +46,7 @@ Step old (Look pass id asks now) (Looked answers) new = Looks old pass id asks n
 Step old (Look pass id asks now) OutOfMemory new = new ≡ old
 Step old (Settle permit report) (Closed settled) new = Settles old permit report settled new
 Step old (Invalidate who target) (Voided answer) new = Voids old who target answer new
-Step old Tally (Told answer) new = (answer ≡ tally_of old) × (new ≡ old)
+Step old Tally (Tallied answer) new = (answer ≡ tally_of old) × (new ≡ old)
 Step old call answer new = ⊥
 
 -- what has to hold where the call is made: a permit may be settled, and its report is in range

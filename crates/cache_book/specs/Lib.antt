@@ -6,11 +6,13 @@ pub use Rattle.cache_model.specs.Legal
 pub use Rattle.cache_model.specs.State
 pub use Rattle.cache_model.specs.Story
 pub use Rattle.cache_model.specs.Masked
-pub mod Step
+pub mod Permits
+pub mod Bounded
 pub mod Scan
 pub mod Settling
 pub mod Looking
 pub mod Voiding
 pub mod Calls
 pub mod Owed
-pub mod Told
+pub mod Shown
+pub mod Laws

@@ -10,7 +10,7 @@ use Rattle.cache_book.specs.declared.found.Found.{Found}
 use Rattle.cache_book.specs.declared.found.Found.TheVariants as found
 use Rattle.cache_model.specs.Journal.{Kept, kept_at, remaining, starts, reserved, IsChoice}
 use Rattle.cache_model.specs.State.{State}
-use Rattle.cache_book.specs.Step.{Pinned, Granted}
+use Rattle.cache_book.specs.Permits.{Pinned, Granted}
 
 -- the permit for an ask of this pass
 abbrev pub granted : Pinned → Option (List ℕ) → Mark → Key → Granted

@@ -3,7 +3,7 @@ use Rattle.std.specs.Prelude.{◌≡◌, ◌≤◌, List, [], ◌∷◌}
 use Rattle.cache_book.specs.declared.found.Found.{Found}
 use Rattle.cache_book.specs.declared.found.Found.TheVariants as found
 use Rattle.cache_model.specs.State.{State}
-use Rattle.cache_book.specs.Step.{Granted}
+use Rattle.cache_book.specs.Permits.{Granted}
 use Rattle.cache_book.specs.Settling.{MaySettle}
 
 -- the permit of the answer may be settled

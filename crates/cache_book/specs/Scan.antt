@@ -1,4 +1,4 @@
--- What the scans of a journal say.
+-- Serves private clauses and proofs alone: what the scans of a journal say.
 use Rattle.std.specs.Prelude.{◌≡◌, ℕ, List, IsSomeAnd, Option}
 use Rattle.std.specs.Option.{option_map}
 use Rattle.cache_terms.specs.declared.keys.Key.{Key}

@@ -15,7 +15,7 @@ use Rattle.cache_book.specs.declared.permit.Report.TheVariants as report
 use Rattle.cache_model.specs.Journal.{Started, IsOpen}
 use Rattle.cache_model.specs.Legal.{IsDue}
 use Rattle.cache_model.specs.State.{State}
-use Rattle.cache_book.specs.Step.{Granted}
+use Rattle.cache_book.specs.Permits.{Granted}
 
 -- the value, where it is stored
 abbrev pub value_kept : Outcome → List ℕ → Option (List ℕ)

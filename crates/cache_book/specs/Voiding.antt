@@ -1,4 +1,4 @@
--- What an invalidation answers and leaves, and what a tally tells.
+-- What an invalidation answers and leaves, and what a tally answers.
 use Rattle.std.specs.Prelude.{◌≡◌, ℕ, ◌+◌, ◌-◌, ◌^◌, ◌==◌, nat_lt, if◌then◌else◌, [], ◌∷◌, ◌++◌, length}
 use Rattle.cache_terms.specs.declared.keys.Target.{Target}
 use Rattle.cache_terms.specs.declared.events.Event.TheVariants.{Invalidate}
@@ -38,6 +38,6 @@ VoidsBy turn.Retired old who target answer new = AppendsNoVoid old answer new
 abbrev pub Voids : State → ℕ → Target → Voided → State → Type 0
 Voids old who target answer new = VoidsBy (turning old) old who target answer new
 
--- what is told of a state
+-- how much of a state is used
 abbrev pub tally_of : State → Tally
 tally_of s = record { epoch = s.epoch; events = length s.journal; bytes = bytes s.journal; pending = reserved s.journal }

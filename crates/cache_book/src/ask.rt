@@ -1,19 +1,20 @@
-ghost use Rattle.std.specs.Prelude.{◌≡◌, ◌+◌, ◌*◌, ◌<◌, ◌≤◌, [], ◌∷◌, ◌++◌, length, vec_capacity, IfOk, IfSome, OnOk, OnErr, Some, None, Option};
+ghost use Rattle.std.specs.Prelude.{◌≡◌, ◌+◌, ◌*◌, ◌<◌, ◌≤◌, ℕ, length, take, vec_capacity, IfOk};
+ghost use Rattle.std.specs.Prelude.{IfSome, OnErr, Some, None, Option};
 ghost use Rattle.std.specs.Option.{option_copied};
 ghost use Rattle.cache_terms.specs.Keys.{key_bytes};
-ghost use Rattle.std.specs.Prelude.{ℕ};
-ghost use Rattle.cache_book.specs.Owed.{AreOwed};
-ghost use Rattle.cache_book.specs.Told.{AreNew, tickets_of, AreChosen};
-ghost use Rattle.cache_model.specs.Journal.{Started, IsOpen, reserved, IsChoice};
-ghost use Rattle.cache_model.specs.Soundness.{IsSound};
-ghost use Rattle.cache_book.specs.Scan.{IsGoodAt};
+ghost use Rattle.cache_model.specs.Journal.{reserved, IsChoice};
 ghost use Rattle.cache_model.specs.Legal.{IsLegal};
-ghost use Rattle.cache_book.specs.Looking.{Asked, AskedAll, bypassed, bypass_mark};
-ghost use Rattle.cache_model.specs.State.{IsWithinRanges};
+ghost use Rattle.cache_model.specs.Soundness.{IsSound};
+ghost use Rattle.cache_book.specs.Bounded.{in_epoch, KeepsOpen};
+ghost use Rattle.cache_book.specs.Looking.{Asked, AskedAll, granted, bypassed, bypass_mark};
+ghost use Rattle.cache_book.specs.Owed.{AreOwed};
+ghost use Rattle.cache_book.specs.Scan.{IsGoodAt};
+ghost use Rattle.cache_book.specs.Shown.{AreNew, tickets_of, AreChosen};
 
+use crate::journal::Journal;
 use crate::scan::{kept_at, reserved_of, served, starts_of};
 use crate::{Found, Pass, Permit};
-use cache_terms::{Event, Key, Limits, Mark};
+use cache_terms::{Event, Key, Mark};
 use flow_base::{Memory, Text};
 use std::alloc::Global;
 
@@ -44,23 +45,34 @@ fn copy_id(id: Option<&Text>) -> Result<Option<Text>, Memory>
     }
 }
 
+/// The permit for an ask of this pass.
+fn permit_for(pass: Pass, id: Option<&Text>, mark: Mark, key: Key) -> Permit
+    ensures { result ≡ granted pass (option_copied id.entry) mark key }
+{
+    Permit {
+        who: pass.who(),
+        epoch: pass.epoch(),
+        mark,
+        key,
+        named: id.is_some(),
+    }
+}
+
 /// Answers an ask for which nothing can be chosen.
 fn miss(
     events: &mut Vec<Event>,
-    limits: Limits,
     pass: Pass,
     id: Option<&Text>,
     now: u64,
     key: Key,
 ) -> Result<Found, Memory>
-    requires legal { IsLegal limits events.old.items }
-    requires room { length events.old.items + reserved events.old.items + 3 ≤ limits.events }
-    requires capacity { limits.events ≤ vec_capacity events.old }
+    requires room { length events.old.items + 2 ≤ vec_capacity events.old }
     requires narrow { key_bytes key ≤ 16384 }
     requires choice { IsChoice events.old.items key (option_copied id) now None }
-    ensures ok { IfOk result (λ answer. Asked pass (option_copied id.entry) now key events.old.items answer events.new.items) }
+    ensures ok { IfOk result (λ answer.
+        Asked pass (option_copied id.entry) now key events.old.items answer events.new.items) }
     ensures err { OnErr result (events.new.items ≡ events.old.items) }
-    ensures capacity { limits.events ≤ vec_capacity events.new }
+    ensures capacity { vec_capacity events.old ≤ vec_capacity events.new }
 {
     let lookup = events.len() as u64;
     let ticket = starts_of(events);
@@ -83,13 +95,7 @@ fn miss(
     events.push(started).unwrap();
     Ok(Found::Miss {
         lookup,
-        permit: Permit {
-            who,
-            epoch: pass.epoch(),
-            mark: Mark::Ticket(ticket),
-            key,
-            named: id.is_some(),
-        },
+        permit: permit_for(pass, id, Mark::Ticket(ticket), key),
     })
 }
 
@@ -107,7 +113,8 @@ fn hit(
     requires narrow { key_bytes key ≤ 16384 }
     requires choice { IsChoice events.old.items key (option_copied id) now (Some at) }
     requires kept { IsGoodAt events.old.items now at }
-    ensures ok { IfOk result (λ answer. Asked pass (option_copied id.entry) now key events.old.items answer events.new.items) }
+    ensures ok { IfOk result (λ answer.
+        Asked pass (option_copied id.entry) now key events.old.items answer events.new.items) }
     ensures err { OnErr result (events.new.items ≡ events.old.items) }
     ensures capacity { vec_capacity events.old ≤ vec_capacity events.new }
 {
@@ -133,77 +140,105 @@ fn hit(
     })
 }
 
-/// Answers one ask.
-pub fn ask(
-    events: &mut Vec<Event>,
-    limits: Limits,
-    pass: Pass,
-    id: Option<&Text>,
-    now: u64,
-    key: Key,
-) -> Result<Found, Memory>
-    requires legal { IsLegal limits events.old.items }
-    requires room { length events.old.items + reserved events.old.items + 3 ≤ limits.events }
-    requires capacity { limits.events ≤ vec_capacity events.old }
-    ensures ok { IfOk result (λ answer. Asked pass (option_copied id.entry) now key events.old.items answer events.new.items) }
-    ensures err { OnErr result (events.new.items ≡ events.old.items) }
-    ensures capacity { limits.events ≤ vec_capacity events.new }
-{
-    let bytes = key.bytes();
-    if bytes > WIDEST {
-        return Ok(Found::Bypass {
-            permit: Permit {
-                who: pass.who(),
-                epoch: pass.epoch(),
-                mark: Mark::Wide {
-                    bytes,
-                    limit: WIDEST,
-                },
-                key,
-                named: id.is_some(),
-            },
-        });
-    }
-    match chosen(events, &key, id, now) {
-        Some(at) => hit(events, pass, id, now, key, at),
-        None => miss(events, limits, pass, id, now, key),
-    }
-}
-
-/// Answers the asks in order, or leaves the events as they were.
-pub fn ask_all(
-    events: &mut Vec<Event>,
-    limits: Limits,
-    pass: Pass,
-    id: Option<&Text>,
-    now: u64,
-    asks: Vec<Key>,
-) -> Result<Vec<Found>, Memory>
-    requires legal { IsLegal limits events.old.items }
-    requires room { length events.old.items + reserved events.old.items + 3 * length asks.items ≤ limits.events }
-    requires capacity { limits.events ≤ vec_capacity events.old }
-    ensures ok { IfOk result (λ answers. AskedAll pass (option_copied id.entry) now asks.items events.old.items answers.items events.new.items) }
-    ensures err { OnErr result (events.new.items ≡ events.old.items) }
-    ensures owed { IfOk result (λ answers. (epoch : ℕ) → AreOwed (record { limits = limits; epoch = epoch; journal = events.new.items }) answers.items) }
-    ensures keeps { (t : ℕ) (s : Started) → IsOpen events.old.items t s → IsOpen events.new.items t s }
-    ensures tickets { IfOk result (λ answers. AreNew events.old.items (tickets_of answers.items)) }
-    ensures chosen { IfOk result (λ answers. AreChosen events.old.items (option_copied id.entry) now asks.items answers.items) }
-    ensures legal { IsLegal limits events.new.items }
-    ensures capacity { limits.events ≤ vec_capacity events.new }
-{
-    let before = events.len();
-    let mut answers = Vec::with_capacity(*events.allocator(), asks.len())?;
-    'asks: for key in asks {
-        match ask(events, limits, pass, id, now, key) {
-            Ok(answer) => answers.push(answer).unwrap(),
-            Err(memory) => {
-                events.truncate(before);
-                discard(answers);
-                return Err(memory);
-            }
+impl Journal {
+    /// Answers one ask.
+    fn ask(&mut self, pass: Pass, id: Option<&Text>, now: u64, key: Key) -> Result<Found, Memory>
+        requires room { length self.old.events + reserved self.old.events + 3
+            ≤ self.old.limits.events }
+        ensures limits { self.new.limits ≡ self.old.limits }
+        ensures ok { IfOk result (λ answer.
+            Asked pass (option_copied id.entry) now key self.old.events answer self.new.events) }
+        ensures err { OnErr result (self.new.events ≡ self.old.events) }
+    {
+        let bytes = key.bytes();
+        if bytes > WIDEST {
+            let mark = Mark::Wide {
+                bytes,
+                limit: WIDEST,
+            };
+            return Ok(Found::Bypass {
+                permit: permit_for(pass, id, mark, key),
+            });
+        }
+        match chosen(&self.events, &key, id, now) {
+            Some(at) => hit(&mut self.events, pass, id, now, key, at),
+            None => miss(&mut self.events, pass, id, now, key),
         }
     }
-    Ok(answers)
+
+    /// Takes away what stands past a front that is legal.
+    fn truncate(&mut self, len: usize)
+        requires { IsLegal self.old.limits (take len self.old.events) }
+        ensures limits { self.new.limits ≡ self.old.limits }
+        ensures front { self.new.events ≡ take len self.old.events }
+    {
+        self.events.truncate(len);
+    }
+
+    /// Answers the asks in order, or leaves the events as they were.
+    pub fn ask_all(
+        &mut self,
+        pass: Pass,
+        id: Option<&Text>,
+        now: u64,
+        asks: Vec<Key>,
+    ) -> Result<Vec<Found>, Memory>
+        requires room { length self.old.events + reserved self.old.events + 3 * length asks.items
+            ≤ self.old.limits.events }
+        ensures limits { self.new.limits ≡ self.old.limits }
+        ensures ok { IfOk result (λ answers.
+            AskedAll pass (option_copied id.entry) now asks.items
+            self.old.events answers.items self.new.events) }
+        ensures err { OnErr result (self.new.events ≡ self.old.events) }
+        ensures owed { IfOk result (λ answers.
+            (epoch : ℕ) → AreOwed (in_epoch epoch self.new) answers.items) }
+        ensures keeps { KeepsOpen self.old.events self.new.events }
+        ensures tickets { IfOk result (λ answers.
+            AreNew self.old.events (tickets_of answers.items)) }
+        ensures chosen { IfOk result (λ answers.
+            AreChosen self.old.events (option_copied id.entry) now asks.items answers.items) }
+    {
+        let before = self.events.len();
+        let mut answers = Vec::with_capacity(*self.events.allocator(), asks.len())?;
+        'asks: for key in asks {
+            match self.ask(pass, id, now, key) {
+                Ok(answer) => answers.push(answer).unwrap(),
+                Err(memory) => {
+                    self.truncate(before);
+                    discard(answers);
+                    return Err(memory);
+                }
+            }
+        }
+        Ok(answers)
+    }
+
+    /// Why a whole look goes past the journal, if it does.
+    pub fn bypass_mark(&self, epoch: u64, pass: Pass, asks: usize) -> Option<Mark>
+        ensures { result ≡ bypass_mark (in_epoch epoch self.now) pass asks }
+    {
+        if epoch == u64::MAX {
+            return Some(Mark::Retired);
+        }
+        if pass.epoch() != epoch {
+            return Some(Mark::Over {
+                pinned: pass.epoch(),
+                current: epoch,
+            });
+        }
+        let length = self.events.len() as u64;
+        let reserved = reserved_of(&self.events);
+        let needed = (asks as u64).saturating_mul(3);
+        if length.saturating_add(reserved).saturating_add(needed) > self.limits.events {
+            return Some(Mark::Full {
+                length,
+                reserved,
+                needed,
+                limit: self.limits.events,
+            });
+        }
+        None
+    }
 }
 
 /// Lets go of answers that nobody was given.
@@ -233,52 +268,13 @@ pub fn bypass_all(
     mark: Mark,
     asks: Vec<Key>,
 ) -> Result<Vec<Found>, Memory>
-    ensures { IfOk result (λ answers. answers.items ≡ bypassed pass (option_copied id.entry) mark asks.items) }
+    ensures { IfOk result (λ answers.
+        answers.items ≡ bypassed pass (option_copied id.entry) mark asks.items) }
 {
     let mut answers = Vec::with_capacity(alloc, asks.len())?;
     'asks: for key in asks {
-        let permit = Permit {
-            who: pass.who(),
-            epoch: pass.epoch(),
-            mark,
-            key,
-            named: id.is_some(),
-        };
+        let permit = permit_for(pass, id, mark, key);
         answers.push(Found::Bypass { permit }).unwrap();
     }
     Ok(answers)
-}
-
-/// Why a whole look goes past the journal, if it does.
-pub fn bypass_mark(
-    epoch: u64,
-    limits: Limits,
-    events: &[Event],
-    pass: Pass,
-    asks: usize,
-) -> Option<Mark>
-    requires { IsWithinRanges limits }
-    ensures { result ≡ bypass_mark (record { limits = limits; epoch = epoch; journal = events.now }) pass asks }
-{
-    if epoch == u64::MAX {
-        return Some(Mark::Retired);
-    }
-    if pass.epoch() != epoch {
-        return Some(Mark::Over {
-            pinned: pass.epoch(),
-            current: epoch,
-        });
-    }
-    let length = events.len() as u64;
-    let reserved = reserved_of(events);
-    let needed = (asks as u64).saturating_mul(3);
-    if length.saturating_add(reserved).saturating_add(needed) > limits.events {
-        return Some(Mark::Full {
-            length,
-            reserved,
-            needed,
-            limit: limits.events,
-        });
-    }
-    None
 }

@@ -1,47 +1,41 @@
-ghost use Rattle.std.specs.Prelude.{◌≡◌, ◌^◌, ◌<◌, ◌≤◌, length, []};
-
-use crate::ask::{ask_all, bypass_all, bypass_mark};
-use crate::judge::append_settle;
-use crate::scan::{bytes_of, reserved_of};
-use crate::voiding::{turning, void};
+use crate::ask::bypass_all;
+use crate::journal::Journal;
 use crate::{Fill, Found, Notice, Pass, Permit, Settled, Tally, Turned, Voided};
-use cache_terms::{Event, Key, Limits, Mark, Outcome};
+use cache_terms::{Event, Key, Limits, Mark, Outcome, Target};
 use flow_base::{Memory, Text};
 use std::alloc::Global;
 use std::marker::Model;
 
-/// A cache for one epoch at a time, by the list of its events. Contracts see it as a legal `State`, whose limits
-/// are in their ranges.
+/// A cache for one epoch at a time, by the list of its events. Contracts see it as a `State`, which is legal and
+/// whose limits are in their ranges.
 #[derive(Drop)]
 pub struct Book {
-    limits: Limits,
     epoch: u64,
-    events: Vec<Event>,
+    journal: Journal,
 }
 
 impl Model for Book {
-    ghost use Rattle.std.specs.Prelude.{◌≤◌, vec_capacity};
-    ghost use Rattle.cache_model.specs.State.{State, IsWithinRanges};
-    ghost use Rattle.cache_model.specs.Legal.{IsLegal};
+    ghost use Rattle.cache_model.specs.State.{State};
+    ghost use Rattle.cache_book.specs.Bounded.{in_epoch};
 
     ghost Value = { State };
 
-    ghost view = { λ b. record { limits = b.limits; epoch = b.epoch; journal = b.events.items } };
-
-    ghost invariant = { λ b. IsLegal b.limits b.events.items × IsWithinRanges b.limits × (b.limits.events ≤ vec_capacity b.events) };
+    ghost view = { λ b. in_epoch b.epoch b.journal };
 }
 
 impl Book {
-    ghost use Rattle.std.specs.Prelude.{◌≡◌, [], IfOk};
-    ghost use Rattle.cache_model.specs.State.{State, IsWithinRanges, opened};
-    ghost use Rattle.std.specs.Prelude.{OnErr};
+    ghost use Rattle.std.specs.Prelude.{◌≡◌, ◌+◌, ◌-◌, ◌^◌, ◌<◌, ◌≤◌, length, IfOk, OnErr};
     ghost use Rattle.std.specs.Option.{option_copied};
-    ghost use Rattle.cache_book.specs.Told.{AreNew, tickets_of, AreChosen};
+    ghost use Rattle.cache_model.specs.Journal.{reserved};
+    ghost use Rattle.cache_model.specs.Legal.{IsLegal};
+    ghost use Rattle.cache_model.specs.State.{State, IsWithinRanges, opened, turned};
+    ghost use Rattle.cache_book.specs.Shown.{AreNew, tickets_of, AreChosen};
     ghost use Rattle.cache_book.specs.Owed.{AreOwed, KeepsPermits, KeepsOthers, KeepsEarlier};
-    ghost use Rattle.cache_book.specs.Calls.{Step, Begin, Begun, Look, Looked, OutOfMemory, Settle, Closed, Invalidate, Told};
+    ghost use Rattle.cache_book.specs.Calls.{Step, Begin, Begun, Look, Looked, OutOfMemory};
+    ghost use Rattle.cache_book.specs.Calls.{Settle, Closed, Invalidate, Tallied};
     ghost use Rattle.cache_book.specs.Calls as machine;
     ghost use Rattle.cache_book.specs.Settling.{MaySettle, IsInRange};
-    ghost use Rattle.cache_model.specs.Legal.{IsLegal};
+    ghost use Rattle.cache_book.specs.Voiding.{AppendsVoid};
 
     /// An empty journal in the epoch `first`. The room for its events is taken here.
     pub fn open(alloc: Global, limits: Limits, first: u64) -> Result<Book, Memory>
@@ -49,9 +43,8 @@ impl Book {
         ensures { IfOk result (λ b. b ≡ opened limits first) }
     {
         Ok(Book {
-            limits,
             epoch: first,
-            events: Vec::with_capacity(alloc, limits.events as usize)?,
+            journal: Journal::open(alloc, limits)?,
         })
     }
 
@@ -61,12 +54,26 @@ impl Book {
         ensures keeps { KeepsEarlier self.old self.new }
         ensures step { Step self.old (Begin who) (Begun result) self.new }
     {
-        let half = 2 * self.events.len() as u64 >= self.limits.events
-            || 2 * bytes_of(&self.events) >= self.limits.bytes;
-        if half && self.epoch != u64::MAX {
-            self.epoch += 1;
-            self.events.clear();
+        if self.journal.is_half_used() && self.epoch != u64::MAX {
+            self.turn();
         }
+        self.pass(who)
+    }
+
+    /// The next epoch, which is empty.
+    fn turn(&mut self)
+        requires { self.old.epoch < 2 ^ 64 - 1 }
+        ensures turned { self.new ≡ turned self.old }
+        ensures room { 1 ≤ self.new.limits.events }
+    {
+        self.epoch += 1;
+        self.journal.clear();
+    }
+
+    /// A pass in the current epoch, for who has not begun a request. Takes no memory.
+    pub fn pass(&self, who: u32) -> Pass
+        ensures { result ≡ record { who = who; epoch = self.now.epoch } }
+    {
         Pass::new(who, self.epoch)
     }
 
@@ -100,8 +107,8 @@ impl Book {
                 },
             };
         }
-        let position = self.events.len() as u64;
-        let outcome = append_settle(&mut self.events, self.limits, who, ticket, report);
+        let position = self.journal.len();
+        let outcome = self.journal.append_settle(who, ticket, report);
         Settled {
             position: Some(position),
             outcome,
@@ -117,16 +124,22 @@ impl Book {
         asks: Vec<Key>,
         now: u64,
     ) -> Result<Vec<Found>, Memory>
-        ensures ok { IfOk result (λ answers. Step self.old (Look pass.now (option_copied id.entry) asks.items now) (Looked answers.items) self.new) }
+        ensures ok { IfOk result (λ answers.
+            Step self.old (Look pass.now (option_copied id.entry) asks.items now)
+            (Looked answers.items) self.new) }
         ensures owed { IfOk result (λ answers. AreOwed self.new answers.items) }
-        ensures tickets { IfOk result (λ answers. AreNew self.old.journal (tickets_of answers.items)) }
-        ensures chosen { IfOk result (λ answers. AreChosen self.old.journal (option_copied id.entry) now asks.items answers.items) }
+        ensures tickets { IfOk result (λ answers.
+            AreNew self.old.journal (tickets_of answers.items)) }
+        ensures chosen { IfOk result (λ answers.
+            AreChosen self.old.journal (option_copied id.entry) now asks.items answers.items) }
         ensures keeps { KeepsPermits self.old self.new }
-        ensures err { OnErr result (Step self.old (Look pass.now (option_copied id.entry) asks.items now) OutOfMemory self.new) }
+        ensures err { OnErr result
+            (Step self.old (Look pass.now (option_copied id.entry) asks.items now)
+            OutOfMemory self.new) }
     {
-        match bypass_mark(self.epoch, self.limits, &self.events, *pass, asks.len()) {
-            Some(mark) => bypass_all(*self.events.allocator(), *pass, id, mark, asks),
-            None => ask_all(&mut self.events, self.limits, *pass, id, now, asks),
+        match self.journal.bypass_mark(self.epoch, *pass, asks.len()) {
+            Some(mark) => bypass_all(self.journal.alloc(), *pass, id, mark, asks),
+            None => self.journal.ask_all(*pass, id, now, asks),
         }
     }
 
@@ -137,28 +150,20 @@ impl Book {
         ensures step { Step self.old (Invalidate who notice) (machine.Voided result) self.new }
     {
         let target = notice.into_target();
-        match turning(self.epoch, self.limits, &self.events) {
-            Turned::No => void(
-                &mut self.events,
-                self.limits,
-                self.epoch,
-                who,
-                target,
-                Turned::No,
-            ),
+        match self.journal.turning(self.epoch) {
+            Turned::No => self.void(who, target, Turned::No),
             Turned::Full {
                 length,
                 reserved,
                 limit,
             } => {
-                self.epoch += 1;
-                self.events.clear();
+                self.turn();
                 let full = Turned::Full {
                     length,
                     reserved,
                     limit,
                 };
-                void(&mut self.events, self.limits, self.epoch, who, target, full)
+                self.void(who, target, full)
             }
             Turned::Retired => Voided {
                 epoch: self.epoch,
@@ -169,15 +174,31 @@ impl Book {
         }
     }
 
+    /// Appends an Invalidate, and says where it stands and what it covers.
+    fn void(&mut self, who: u32, target: Target, turned: Turned) -> Voided
+        requires { length self.old.journal + reserved self.old.journal + 1
+            ≤ self.old.limits.events }
+        ensures { AppendsVoid self.old who target turned result self.new }
+    {
+        let position = self.journal.len();
+        let count = self.journal.append_void(who, target);
+        Voided {
+            epoch: self.epoch,
+            position,
+            count,
+            turned,
+        }
+    }
+
     /// How much of the journal is used. Takes no memory.
     pub fn tally(&self) -> Tally
-        ensures { Step self.now machine.Tally (Told result) self.now }
+        ensures { Step self.now machine.Tally (Tallied result) self.now }
     {
         Tally {
             epoch: self.epoch,
-            events: self.events.len() as u64,
-            bytes: bytes_of(&self.events),
-            pending: reserved_of(&self.events),
+            events: self.journal.len(),
+            bytes: self.journal.bytes(),
+            pending: self.journal.reserved(),
         }
     }
 
@@ -187,6 +208,6 @@ impl Book {
         ensures legal { IsLegal self.now.limits self.now.journal }
         ensures ranges { IsWithinRanges self.now.limits }
     {
-        &self.events
+        self.journal.events()
     }
 }

@@ -1,12 +1,13 @@
-ghost use Rattle.std.specs.Prelude.{◌≡◌, ◌+◌, ◌≤◌, length, [], ◌∷◌, ◌++◌, IsSome, Some, vec_capacity};
+ghost use Rattle.std.specs.Prelude.{◌≡◌, ◌≤◌, [], ◌∷◌, ◌++◌, IsSome, Some};
 ghost use Rattle.cache_terms.specs.declared.events.Event.TheVariants.{Settle};
-ghost use Rattle.cache_model.specs.State.{IsWithinRanges};
-ghost use Rattle.cache_model.specs.Journal.{bytes, Started, start_of};
-ghost use Rattle.cache_model.specs.Legal.{IsDue, IsLegal};
-ghost use Rattle.cache_book.specs.Settling.{got_of, got_by, value_kept, IsOwedTo, IsInRange};
+ghost use Rattle.cache_model.specs.Journal.{bytes, start_of};
+ghost use Rattle.cache_model.specs.Legal.{IsDue};
+ghost use Rattle.cache_book.specs.Settling.{got_of, got_by, IsOwedTo, IsInRange};
+ghost use Rattle.cache_book.specs.Bounded.{IsDueTo};
 ghost use Rattle.cache_book.specs.Scan.{start_shown};
 
 use crate::Report;
+use crate::journal::Journal;
 use crate::scan::{StartRef, bytes_of, last_cover, start_of};
 use cache_terms::{Event, Got, Limits, Offer, Outcome, why};
 
@@ -14,7 +15,8 @@ use cache_terms::{Event, Got, Limits, Offer, Outcome, why};
 fn outcome_of(events: &[Event], limits: Limits, start: StartRef, offer: &Offer) -> Outcome
     requires within { bytes events.now ≤ limits.bytes }
     requires range { limits.bytes ≤ 268435456 }
-    ensures { IsDue limits events.now (start_shown start.entry) (Some (got_of offer.now result)) result }
+    ensures { IsDue limits events.now (start_shown start.entry)
+        (Some (got_of offer.now result)) result }
 {
     if let Some(why) = why(offer, start.id.is_some()) {
         return Outcome::Unstorable(why);
@@ -45,7 +47,7 @@ pub fn judge(
     requires range { limits.bytes ≤ 268435456 }
     requires started { IsSome (start_of events.now ticket) }
     ensures got { result.0 ≡ got_by report result.1 }
-    ensures due { (s : Started) → start_of events.now ticket ≡ Some s → IsDue limits events.now s result.0 result.1 }
+    ensures due { IsDueTo limits events.now ticket result.0 result.1 }
 {
     match report {
         Report::Failed => (None, Outcome::Failed),
@@ -75,31 +77,24 @@ pub fn judge(
     }
 }
 
-/// Appends the Settle of an open ticket, whose room was kept.
-pub fn append_settle(
-    events: &mut Vec<Event>,
-    limits: Limits,
-    who: u32,
-    ticket: u64,
-    report: Report,
-) -> Outcome
-    requires legal { IsLegal limits events.old.items }
-    requires within { IsWithinRanges limits }
-    requires room { limits.events ≤ vec_capacity events.old }
-    requires owed { IsOwedTo events.old.items ticket who }
-    requires range { IsInRange report }
-    ensures after { events.new.items ≡ events.old.items ++ Settle who ticket (got_by report result) result ∷ [] }
-    ensures due { (s : Started) → start_of events.old.items ticket ≡ Some s → IsDue limits events.old.items s (got_by report result) result }
-    ensures legal { IsLegal limits events.new.items }
-    ensures room { limits.events ≤ vec_capacity events.new }
-{
-    let (got, outcome) = judge(events, limits, ticket, report);
-    let settle = Event::Settle {
-        who,
-        ticket,
-        got,
-        outcome,
-    };
-    events.push(settle).unwrap();
-    outcome
+impl Journal {
+    /// Appends the Settle of an open ticket, whose room was kept.
+    pub fn append_settle(&mut self, who: u32, ticket: u64, report: Report) -> Outcome
+        requires owed { IsOwedTo self.old.events ticket who }
+        requires range { IsInRange report }
+        ensures limits { self.new.limits ≡ self.old.limits }
+        ensures after { self.new.events
+            ≡ self.old.events ++ Settle who ticket (got_by report result) result ∷ [] }
+        ensures due { IsDueTo self.old.limits self.old.events ticket (got_by report result) result }
+    {
+        let (got, outcome) = judge(&self.events, self.limits, ticket, report);
+        let settle = Event::Settle {
+            who,
+            ticket,
+            got,
+            outcome,
+        };
+        self.events.push(settle).unwrap();
+        outcome
+    }
 }

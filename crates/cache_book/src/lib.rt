@@ -9,6 +9,7 @@ mod answers;
 mod ask;
 mod book;
 mod found;
+mod journal;
 mod judge;
 mod laws;
 mod notice;

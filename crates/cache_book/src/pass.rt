@@ -1,6 +1,6 @@
 use std::marker::Model;
 
-/// Who asks, and in which epoch the request began. It is made by `Book::begin`.
+/// Who asks, and in which epoch. It is made by `Book::begin`, and for who has not begun by `Book::pass`.
 #[derive(Clone, Copy)]
 pub struct Pass {
     who: u32,
@@ -8,7 +8,7 @@ pub struct Pass {
 }
 
 impl Model for Pass {
-    ghost use Rattle.cache_book.specs.Step.{Pinned};
+    ghost use Rattle.cache_book.specs.Permits.{Pinned};
 
     ghost Value = { Pinned };
 
@@ -19,7 +19,7 @@ impl Model for Pass {
 
 impl Pass {
     ghost use Rattle.std.specs.Prelude.{◌≡◌};
-    ghost use Rattle.cache_book.specs.Step.{Pinned};
+    ghost use Rattle.cache_book.specs.Permits.{Pinned};
 
     pub(crate) fn new(who: u32, epoch: u64) -> Pass
         ensures { result ≡ record { who = who; epoch = epoch } }

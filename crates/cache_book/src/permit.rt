@@ -11,11 +11,17 @@ pub struct Permit {
 }
 
 impl Model for Permit {
-    ghost use Rattle.cache_book.specs.Step.{Granted};
+    ghost use Rattle.cache_book.specs.Permits.{Granted};
 
     ghost Value = { Granted };
 
-    ghost view = { λ p. record { who = p.who; epoch = p.epoch; mark = p.mark; key = p.key; named = p.named } };
+    ghost view = { λ p. record {
+      who = p.who;
+      epoch = p.epoch;
+      mark = p.mark;
+      key = p.key;
+      named = p.named;
+    } };
 }
 
 impl Permit {

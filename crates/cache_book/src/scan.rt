@@ -1,6 +1,10 @@
-ghost use Rattle.std.specs.Prelude.{◌≡◌, ◌↔◌, ◌^◌, ◌<◌, ◌≤◌, length, slice_get, IsTrue, IfSome, MatchOption, Option, Some, None};
+ghost use Rattle.std.specs.Prelude.{◌≡◌, ◌↔◌, ◌^◌, ◌<◌, ◌≤◌, length, IsTrue, IfSome};
+ghost use Rattle.std.specs.Prelude.{MatchOption, Option, Some, None};
 ghost use Rattle.std.specs.List.{list_any};
-ghost use Rattle.cache_model.specs.Journal.{bytes, stored_size, settles, is_start, starts, reserved, is_pending, start_of, kept_at, CoveredAt, CoversAfter, IsLastCover, IsLast, IsFresh, IsServed, IsChoice, IsHeldUnder, IsCount, remaining};
+ghost use Rattle.cache_model.specs.Journal.{bytes, stored_size, settles, is_start, starts};
+ghost use Rattle.cache_model.specs.Journal.{reserved, is_pending, start_of, kept_at};
+ghost use Rattle.cache_model.specs.Journal.{CoversAfter, IsLastCover, IsLast, IsFresh, IsServed};
+ghost use Rattle.cache_model.specs.Journal.{IsHeldUnder, IsCount, remaining};
 ghost use Rattle.cache_model.specs.Soundness.{IsSound};
 ghost use Rattle.cache_book.specs.Scan.{start_seen, kept_seen, kept_shown, IsKeptFor, IsGoodAt};
 ghost use Rattle.std.specs.Option.{option_copied};
@@ -229,7 +233,9 @@ impl<'a> KeptRef<'a> {
     /// The milliseconds that are left of the time for which it is good, if any are.
     pub fn remaining(&self, now: u64) -> Option<u64>
         requires { self.now.got.now.verdict.lifetime ≤ 2147483648 }
-        ensures { MatchOption result (IsFresh (kept_shown self.now) now → ⊥) (λ left. IsFresh (kept_shown self.now) now × (left ≡ remaining (kept_shown self.now) now)) }
+        ensures { MatchOption result (IsFresh (kept_shown self.now) now → ⊥)
+            (λ left. IsFresh (kept_shown self.now) now
+            × (left ≡ remaining (kept_shown self.now) now)) }
     {
         let verdict = self.got.verdict;
         let good = 1000 * verdict.lifetime.saturating_sub(verdict.age);

@@ -5,7 +5,7 @@ ghost use Rattle.cache_book.specs.Settling.{MaySettle, IsInRange};
 
 use super::*;
 use crate::ask::discard;
-use cache_terms::{Key, Limits, Mark, Marks, Offer, Outcome, Tags, Target, Verdict};
+use cache_terms::{Key, Limits, Mark, Marks, Offer, Outcome, Tags, Target, Verdict, Why};
 use flow_base::{Memory, Text};
 use std::alloc::AllocGlobal;
 use std::process::Abort;
@@ -17,10 +17,7 @@ const WIDE: Limits = Limits {
 };
 
 fn text<R: Abort + AllocGlobal>(rt: &R, s: &str) -> Text {
-    match Text::of(rt.alloc(), s) {
-        Ok(text) => text,
-        Err(Memory) => Text::of(rt.alloc(), s).expect(rt, "memory"),
-    }
+    Text::of(rt.alloc(), s).expect(rt, "memory")
 }
 
 fn key<R: Abort + AllocGlobal>(rt: &R, sub: &str, type_name: &str, rep: &str) -> Key {
@@ -52,13 +49,9 @@ fn got<R: Abort + AllocGlobal>(
     requires { (lifetime ≤ 2147483648) × (age ≤ 2147483648) }
     ensures { IsInRange result }
 {
-    let known = match tags(rt, words) {
-        Ok(known) => known,
-        Err(Memory) => tags(rt, words).expect(rt, "memory"),
-    };
     Report::Got(Offer {
         value: text(rt, value),
-        tags: known,
+        tags: tags(rt, words).expect(rt, "memory"),
         verdict: Verdict {
             lifetime,
             age,
@@ -98,7 +91,7 @@ fn look_once<R: Abort + AllocGlobal>(
     Ok(found)
 }
 
-/// Looks for one key, and again where memory was short.
+/// Looks for one key.
 fn look<R: Abort + AllocGlobal>(
     rt: &R,
     book: &mut Book,
@@ -110,10 +103,7 @@ fn look<R: Abort + AllocGlobal>(
     ensures owed { IsOwedAnswer book.new result }
     ensures keeps { KeepsPermits book.old book.new }
 {
-    match look_once(rt, book, pass, id, now, key) {
-        Ok(found) => found,
-        Err(Memory) => look_once(rt, book, pass, id, now, key).expect(rt, "memory"),
-    }
+    look_once(rt, book, pass, id, now, key).expect(rt, "memory")
 }
 
 fn is_ticket(mark: &Mark, wanted: u64) -> bool
@@ -179,17 +169,25 @@ fn begun<R: Abort + AllocGlobal>(rt: &R, book: &Book, permit: Permit) -> Permit
     panic!(rt; "a permit of a later epoch")
 }
 
-fn hit<R: Abort + AllocGlobal>(rt: &R, found: Found, lookup: u64, stored: u64, value: &str) {
+/// Checks a hit: where its Lookup and its piece stand, the value, how long it is good, and whether it is private.
+fn hit<R: Abort + AllocGlobal>(
+    rt: &R,
+    found: Found,
+    places: (u64, u64),
+    value: &str,
+    good: (u64, bool),
+) {
     match found {
         Found::Hit {
-            lookup: at,
-            stored: from,
+            lookup,
+            stored,
             value: text,
-            left_ms: _,
-            private: _,
+            left_ms,
+            private,
         } => {
-            assert!(rt; (at, from) == (lookup, stored), "hit {from} at {at}");
+            assert!(rt; (lookup, stored) == places, "hit {stored} at {lookup}");
             assert_eq!(rt; text.as_str(), value);
+            assert!(rt; (left_ms, private) == good, "{left_ms} ms left");
         }
         Found::Miss { lookup: at, permit } => {
             permit.discard();
@@ -202,12 +200,18 @@ fn hit<R: Abort + AllocGlobal>(rt: &R, found: Found, lookup: u64, stored: u64, v
     }
 }
 
-fn bypassed<R: Abort + AllocGlobal>(rt: &R, found: Found, mark: Mark) {
+/// The permit of an ask that went past the journal, whose mark is checked.
+fn bypassed<R: Abort + AllocGlobal>(rt: &R, book: &Book, found: Found, mark: Mark) -> Permit
+    requires { IsOwedAnswer book.now found }
+    ensures { MaySettle book.now result }
+{
     match found {
         Found::Bypass { permit } => {
-            let told = *permit.mark();
+            if *permit.mark() == mark {
+                return permit;
+            }
             permit.discard();
-            assert_eq!(rt; told, mark);
+            panic!(rt; "another mark")
         }
         Found::Miss { lookup: at, permit } => {
             permit.discard();
@@ -245,13 +249,25 @@ fn settle<R: Abort + AllocGlobal>(
     );
 }
 
+/// Settles a permit without a ticket, which appends nothing.
+fn past<R: Abort + AllocGlobal>(rt: &R, book: &mut Book, permit: Permit)
+    requires { MaySettle book.old permit }
+{
+    let report = Report::Failed;
+    let settled = book.settle(Fill { permit, report });
+    assert_eq!(rt;
+        settled,
+        Settled {
+            position: None,
+            outcome: Outcome::Bypassed
+        }
+    );
+}
+
 fn void<R: Abort + AllocGlobal>(rt: &R, book: &mut Book, who: u32, target: &Target, voided: Voided)
     ensures { KeepsEarlier book.old book.new }
 {
-    let notice = match Notice::of(target) {
-        Ok(notice) => notice,
-        Err(Memory) => Notice::of(target).expect(rt, "memory"),
-    };
+    let notice = Notice::of(target).expect(rt, "memory");
     assert_eq!(rt; book.invalidate(who, notice), voided);
 }
 
@@ -273,7 +289,7 @@ fn a_miss_a_fill_a_hit<R: Abort + AllocGlobal>(rt: &R) {
     let report = got(rt, 60, 0, false, &[], "v");
     settle(rt, &mut book, permit, report, 2, Outcome::Stored);
     let found = look(rt, &mut book, &pass, None, 0, &asked);
-    hit(rt, found, 3, 2, "v");
+    hit(rt, found, (3, 2), "v", (60000, false));
     assert_eq!(rt;
         book.tally(),
         Tally {
@@ -316,7 +332,10 @@ fn two_tickets_on_one_key<R: Abort + AllocGlobal>(rt: &R) {
     settle(rt, &mut book, later, y, 4, Outcome::Stored);
     settle(rt, &mut book, earlier, x, 5, Outcome::Stored);
     let found = look(rt, &mut book, &first, None, 0, &asked);
-    hit(rt, found, 6, 5, "x");
+    hit(rt, found, (6, 5), "x", (60000, false));
+    // Of two pieces of one key the later is held, and it alone counts.
+    let target = Target::Subgraph(text(rt, "a"));
+    void(rt, &mut book, 1, &target, not_turned(7, 1));
 }
 
 fn one_type_in_two_subgraphs<R: Abort + AllocGlobal>(rt: &R) {
@@ -349,7 +368,7 @@ fn one_type_in_two_subgraphs<R: Abort + AllocGlobal>(rt: &R) {
     let found = look(rt, &mut book, &pass, None, 0, &a);
     missed(rt, &book, found, 7, 2).discard();
     let found = look(rt, &mut book, &pass, None, 0, &b);
-    hit(rt, found, 9, 5, "y");
+    hit(rt, found, (9, 5), "y", (60000, false));
 }
 
 fn the_boundary_of_freshness<R: Abort + AllocGlobal>(rt: &R) {
@@ -361,7 +380,7 @@ fn the_boundary_of_freshness<R: Abort + AllocGlobal>(rt: &R) {
     let report = got(rt, 60, 10, false, &[], "v");
     settle(rt, &mut book, permit, report, 2, Outcome::Stored);
     let found = look(rt, &mut book, &pass, None, 50999, &asked);
-    hit(rt, found, 3, 2, "v");
+    hit(rt, found, (3, 2), "v", (1, false));
     let found = look(rt, &mut book, &pass, None, 51000, &asked);
     missed(rt, &book, found, 4, 1).discard();
     let found = look(rt, &mut book, &pass, None, 999, &asked);
@@ -379,7 +398,7 @@ fn private_records<R: Abort + AllocGlobal>(rt: &R) {
     let own = got(rt, 60, 0, true, &[], "pa");
     settle(rt, &mut book, permit, own, 2, Outcome::Stored);
     let found = look(rt, &mut book, &pass, Some(&a), 0, &asked);
-    hit(rt, found, 3, 2, "pa");
+    hit(rt, found, (3, 2), "pa", (60000, true));
     let found = look(rt, &mut book, &pass, Some(&b), 0, &asked);
     missed(rt, &book, found, 4, 1).discard();
     let found = look(rt, &mut book, &pass, None, 0, &asked);
@@ -387,9 +406,9 @@ fn private_records<R: Abort + AllocGlobal>(rt: &R) {
     let public = got(rt, 60, 0, false, &[], "pub");
     settle(rt, &mut book, permit, public, 8, Outcome::Stored);
     let found = look(rt, &mut book, &pass, Some(&a), 0, &asked);
-    hit(rt, found, 9, 2, "pa");
+    hit(rt, found, (9, 2), "pa", (60000, true));
     let found = look(rt, &mut book, &pass, Some(&b), 0, &asked);
-    hit(rt, found, 10, 8, "pub");
+    hit(rt, found, (10, 8), "pub", (60000, false));
 }
 
 fn a_full_journal_turns<R: Abort + AllocGlobal>(rt: &R) {
@@ -410,16 +429,13 @@ fn a_full_journal_turns<R: Abort + AllocGlobal>(rt: &R) {
     let found = look(rt, &mut book, &first, None, 0, &r2);
     let open = missed(rt, &book, found, 3, 1);
     let found = look(rt, &mut book, &first, None, 0, &r3);
-    bypassed(
-        rt,
-        found,
-        Mark::Full {
-            length: 5,
-            reserved: 1,
-            needed: 3,
-            limit: 8,
-        },
-    );
+    let full = Mark::Full {
+        length: 5,
+        reserved: 1,
+        needed: 3,
+        limit: 8,
+    };
+    bypassed(rt, &book, found, full).discard();
     let open = begun(rt, &book, open);
     let second = book.begin(2);
     let settled = book.settle(Fill {
@@ -437,14 +453,11 @@ fn a_full_journal_turns<R: Abort + AllocGlobal>(rt: &R) {
         }
     );
     let found = look(rt, &mut book, &first, None, 0, &r1);
-    bypassed(
-        rt,
-        found,
-        Mark::Over {
-            pinned: 0,
-            current: 1,
-        },
-    );
+    let over = Mark::Over {
+        pinned: 0,
+        current: 1,
+    };
+    bypassed(rt, &book, found, over).discard();
     let found = look(rt, &mut book, &second, None, 0, &r1);
     let permit = missed(rt, &book, found, 0, 0);
     assert_eq!(rt; permit.epoch(), 1);
@@ -502,6 +515,96 @@ fn bytes_that_just_fit<R: Abort + AllocGlobal>(rt: &R) {
     assert_eq!(rt; (pass.who(), pass.epoch()), (2, 1));
 }
 
+fn a_stale_own_piece_beside_a_public_one<R: Abort + AllocGlobal>(rt: &R) {
+    let mut book = Book::open(rt.alloc(), WIDE, 0).expect(rt, "memory");
+    let pass = book.begin(1);
+    let asked = key(rt, "a", "T", "r");
+    let a = text(rt, "A");
+    let found = look(rt, &mut book, &pass, Some(&a), 0, &asked);
+    let permit = missed(rt, &book, found, 0, 0);
+    let own = got(rt, 1, 0, true, &[], "own");
+    settle(rt, &mut book, permit, own, 2, Outcome::Stored);
+    let found = look(rt, &mut book, &pass, None, 0, &asked);
+    let permit = missed(rt, &book, found, 3, 1);
+    let public = got(rt, 60, 10, false, &[], "pub");
+    settle(rt, &mut book, permit, public, 5, Outcome::Stored);
+    let found = look(rt, &mut book, &pass, Some(&a), 400, &asked);
+    hit(rt, found, (6, 2), "own", (600, true));
+    let found = look(rt, &mut book, &pass, Some(&a), 1000, &asked);
+    hit(rt, found, (7, 5), "pub", (49000, false));
+}
+
+fn the_first_cause_decides<R: Abort + AllocGlobal>(rt: &R) {
+    let limits = Limits {
+        events: 64,
+        bytes: 16,
+    };
+    let mut book = Book::open(rt.alloc(), limits, 0).expect(rt, "memory");
+    let pass = book.begin(1);
+    let asked = key(rt, "a", "T", "r");
+    let target = Target::OfType(text(rt, "a"), text(rt, "T"));
+    // Of two covers the greater counts, and a cover comes before the want of room.
+    let found = look(rt, &mut book, &pass, None, 0, &asked);
+    let permit = missed(rt, &book, found, 0, 0);
+    void(rt, &mut book, 2, &target, not_turned(2, 0));
+    let permit = begun(rt, &book, permit);
+    void(rt, &mut book, 2, &target, not_turned(3, 0));
+    let report = got(rt, 60, 0, false, &[], "0123456789abcdefg");
+    settle(rt, &mut book, permit, report, 4, Outcome::Void(3));
+    // A reason comes before a cover, and a failure before all.
+    let found = look(rt, &mut book, &pass, None, 0, &asked);
+    let permit = missed(rt, &book, found, 5, 1);
+    void(rt, &mut book, 2, &target, not_turned(7, 0));
+    let report = got(rt, 60, 0, true, &[], "v");
+    settle(
+        rt,
+        &mut book,
+        permit,
+        report,
+        8,
+        Outcome::Unstorable(Why::Anonymous),
+    );
+    let found = look(rt, &mut book, &pass, None, 0, &asked);
+    let permit = missed(rt, &book, found, 9, 2);
+    settle(rt, &mut book, permit, Report::Failed, 11, Outcome::Failed);
+}
+
+fn keys_that_are_too_long<R: Abort + AllocGlobal>(rt: &R) {
+    let mut book = Book::open(rt.alloc(), WIDE, 0).expect(rt, "memory");
+    // One that has not begun asks in the current epoch.
+    let pass = book.pass(7);
+    assert_eq!(rt; (pass.who(), pass.epoch()), (7, 0));
+    let rep = "0123456789abcdef"
+        .repeat(rt.alloc(), 1024)
+        .expect(rt, "memory");
+    let asked = key(rt, "a", "T", rep.as_str());
+    let found = look(rt, &mut book, &pass, None, 0, &asked);
+    let wide = Mark::Wide {
+        bytes: 16387,
+        limit: 16384,
+    };
+    let permit = bypassed(rt, &book, found, wide);
+    past(rt, &mut book, permit);
+    assert_eq!(rt; book.tally().events, 0);
+}
+
+fn the_last_epoch<R: Abort + AllocGlobal>(rt: &R) {
+    let mut book = Book::open(rt.alloc(), WIDE, u64::MAX).expect(rt, "memory");
+    let pass = book.begin(1);
+    assert_eq!(rt; pass.epoch(), u64::MAX);
+    let asked = key(rt, "a", "T", "r");
+    let found = look(rt, &mut book, &pass, None, 0, &asked);
+    let permit = bypassed(rt, &book, found, Mark::Retired);
+    past(rt, &mut book, permit);
+    let retired = Voided {
+        epoch: u64::MAX,
+        position: 0,
+        count: 0,
+        turned: Turned::Retired,
+    };
+    void(rt, &mut book, 1, &Target::Subgraph(text(rt, "a")), retired);
+}
+
 #[test]
 fn worked_examples(rt: HostRuntime) {
     a_miss_a_fill_a_hit(&rt);
@@ -513,4 +616,8 @@ fn worked_examples(rt: HostRuntime) {
     a_full_journal_turns(&rt);
     invalidations_turn_the_epoch(&rt);
     bytes_that_just_fit(&rt);
+    a_stale_own_piece_beside_a_public_one(&rt);
+    the_first_cause_decides(&rt);
+    keys_that_are_too_long(&rt);
+    the_last_epoch(&rt);
 }

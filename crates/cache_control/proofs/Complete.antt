@@ -1,18 +1,18 @@
 -- A text in the grammar is read as its directives.
 use Rattle.std.proofs.Common.{◌≡◌, ℕ, ◌+◌, ◌<◌, zero, suc, Bool, true, false, not, ◌&&◌, ◌||◌, ◌==◌, cond, if◌then◌else◌, List, [], ◌∷◌, ◌++◌, length, take, drop, None, Some, refl, sym, ap, subst, ◌∙◌, true≢false, arith, append_assoc, length-append, option_and_then}
 use Rattle.std.specs.Option.{option_map}
-use Rattle.std.specs.List.{take_while, list_all}
+use Rattle.std.specs.List.{list_all}
 use Rattle.std.proofs.Math.Seq.{take-append_seam, drop-append_seam, drop-append-add}
 use Rattle.std.proofs.lemmas.Bool.{eqb-true}
 use Rattle.std.proofs.lemmas.List.{append-nil}
-use Rattle.cache_control.specs.Octets.{is_blank, is_token_byte, is_quotable, is_quoted_byte}
+use Rattle.cache_control.specs.Octets.{is_blank, is_token_byte, is_quotable, is_quoted_byte, after_blanks}
 use Rattle.cache_control.specs.Grammar.{Directive, AreBlanks, IsToken, IsQuotedText, IsArgument, IsDirective, IsElement, IsDirectives}
 use Rattle.cache_control.specs.Grammar.IsQuotedText.{nothing, byte, pair}
 use Rattle.cache_control.specs.Grammar.IsArgument.{token, quoted}
 use Rattle.cache_control.specs.Grammar.IsDirective.{bare, valued}
 use Rattle.cache_control.specs.Grammar.IsElement.{empty, one}
 use Rattle.cache_control.specs.Grammar.IsDirectives.{last, more}
-use Rattle.cache_control.specs.Reading.{after_blanks, quoted_len, take_token, take_argument, Taken, Element, named, element_from, read_element, followed, read}
+use Rattle.cache_control.specs.Reading.{quoted_len, take_token, take_argument, Taken, Element, named, element_from, read_element, followed, read}
 use Rattle.cache_control.proofs.Spans.{both_hold, span, span-append}
 
 -- after an element the text ends, or a comma comes

@@ -1,5 +1,5 @@
 -- Seconds that digits write, one digit more.
-use Rattle.std.proofs.Common.{◌≡◌, ℕ, ◌+◌, ◌-◌, ◌*◌, ◌<◌, ◌≤◌, min, Bool, true, false, List, length, take, get_or, ap, ◌∙◌, arith, unwrap_or, cond, not, ◌&&◌, ◌==◌, Option, None, Some, find, option_and_then}
+use Rattle.std.proofs.Common.{◌≡◌, ℕ, ◌+◌, ◌-◌, ◌*◌, ◌<◌, ◌≤◌, min, Bool, true, false, List, length, take, get_or, sym, subst, ap, ◌∙◌, arith, unwrap_or, cond, not, ◌&&◌, ◌==◌, Option, None, Some, find, option_and_then}
 use Rattle.std.specs.Prelude.{codes}
 use Rattle.std.specs.Option.{option_map, option_or}
 use Rattle.std.specs.List.{list_all, before_first}
@@ -9,8 +9,10 @@ use Rattle.std.proofs.lemmas.Int.Digits.{digits_value_push}
 use Rattle.std.proofs.lemmas.List.{take_more}
 use Rattle.std.proofs.lemmas.Bool.Decides.{nat_tests}
 use Rattle.cache_control.specs.Grammar.{Directive}
-use Rattle.cache_control.specs.Reading.{directives_of}
-use Rattle.cache_control.specs.Rules.{seconds_of, has_name, argument_seconds, trimmed, age_of, judged, verdict_of}
+use Rattle.cache_control.specs.Reading.{directives_of, judged, verdict_of}
+use Rattle.cache_terms.specs.declared.offers.Verdict.{Verdict}
+use Rattle.cache_control.specs.Rules.{seconds_of, has_name, argument_seconds, trimmed, age_of, IsVerdict}
+use Rattle.cache_control.proofs.Laws.{verdict_is}
 
 digit_is : (c : ℕ) → 48 ≤ c → c ≤ 57 → digit_value c ≡ c - 48
 digit_is c low high = grind (arith, nat_tests)
@@ -60,3 +62,9 @@ judged_age (Some ds) age small = small
 pub verdict_age_bound : (cache_control age : Option (List ℕ)) → (verdict_of cache_control age).age ≤ 2147483648
 verdict_age_bound None age = age_bound age
 verdict_age_bound (Some text) age = judged_age (directives_of text) (age_of age) (age_bound age)
+
+-- lifetime and age are in their ranges
+pub verdict_in_range : (cache_control age : Option (List ℕ)) (v : Verdict) → IsVerdict cache_control age v → (v.lifetime ≤ 2147483648) × (v.age ≤ 2147483648)
+verdict_in_range cache_control age v h =
+    let same = sym (verdict_is cache_control age v h) in
+    (subst (λ (w : Verdict). w.lifetime ≤ 2147483648) same (verdict_bound cache_control age), subst (λ (w : Verdict). w.age ≤ 2147483648) same (verdict_age_bound cache_control age))

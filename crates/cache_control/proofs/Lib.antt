@@ -1,6 +1,6 @@
 mod Spans
 mod Complete
 mod Sound
-mod Laws
+pub mod Laws
 mod Steps
 pub mod Digits

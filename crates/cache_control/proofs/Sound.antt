@@ -5,14 +5,14 @@ use Rattle.std.proofs.Math.Seq.{take-append_seam, drop-append-add}
 use Rattle.std.proofs.lemmas.Bool.{eqb-true}
 use Rattle.std.proofs.lemmas.Option.{same_Some}
 use Rattle.std.proofs.lemmas.List.{append-nil, take-append-drop}
-use Rattle.cache_control.specs.Octets.{is_blank, is_token_byte, is_quotable}
+use Rattle.cache_control.specs.Octets.{is_blank, is_token_byte, is_quotable, after_blanks}
 use Rattle.cache_control.specs.Grammar.{Directive, AreBlanks, IsToken, IsQuotedText, IsArgument, IsDirective, IsElement, IsDirectives}
 use Rattle.cache_control.specs.Grammar.IsQuotedText.{nothing, byte, pair}
 use Rattle.cache_control.specs.Grammar.IsArgument.{token, quoted}
 use Rattle.cache_control.specs.Grammar.IsDirective.{bare, valued}
 use Rattle.cache_control.specs.Grammar.IsElement.{empty, one}
 use Rattle.cache_control.specs.Grammar.IsDirectives.{last, more}
-use Rattle.cache_control.specs.Reading.{after_blanks, token_len, quoted_len, take_token, take_argument, Taken, Element, named, read_element, followed, read}
+use Rattle.cache_control.specs.Reading.{token_len, quoted_len, take_token, take_argument, Taken, Element, named, read_element, followed, read}
 use Rattle.cache_control.proofs.Spans.{span, passes, empty_front}
 
 -- what is found in an optional value

@@ -1,4 +1,4 @@
--- One turn of the loop over the elements of a text.
+-- One iteration of the loop over the elements of a text.
 use Rattle.std.proofs.Common.{◌≡◌, ℕ, ◌<◌, zero, suc, Bool, true, false, ◌||◌, ◌==◌, List, [], ◌∷◌, ◌++◌, length, Option, None, Some, find, is_some, refl, sym, ap, ◌∙◌, true≢false, arith, option_and_then}
 use Rattle.std.specs.Prelude.{codes}
 use Rattle.std.specs.Option.{option_map, option_or}
@@ -57,13 +57,13 @@ module _ (whole : Option Rules) (rules : Rules) (rest : List ℕ) where
   stops_unread (suc k, below, same) e = ap (λ o. option_map (with_more rules) (option_and_then (λ x. followed (read k) x.directives x.rest) o)) e ∙ sym same
 
   module _ (element : Element) (is : Some element ≡ read_element rest) where
-    turned : (k : ℕ) → option_map (with_more rules) (followed (read k) element.directives element.rest) ≡ option_map (with_more rules) (read (suc k) rest)
-    turned k = ap (λ o. option_map (with_more rules) (option_and_then (λ x. followed (read k) x.directives x.rest) o)) is
+    read_once : (k : ℕ) → option_map (with_more rules) (followed (read k) element.directives element.rest) ≡ option_map (with_more rules) (read (suc k) rest)
+    read_once k = ap (λ o. option_map (with_more rules) (option_and_then (λ x. followed (read k) x.directives x.rest) o)) is
 
     -- the text ends
     pub ends : Holds whole rules rest → element.rest ≡ [] → Some (with_more rules element.directives) ≡ whole
     ends (zero, below, same) e = absurd (omega arith)
-    ends (suc k, below, same) e = ap (λ l. option_map (with_more rules) (followed (read k) element.directives l)) (sym e) ∙ turned k ∙ sym same
+    ends (suc k, below, same) e = ap (λ l. option_map (with_more rules) (followed (read k) element.directives l)) (sym e) ∙ read_once k ∙ sym same
 
     at_comma : (next : List ℕ → Option (List Directive)) (l : List ℕ) (o : Option (List ℕ)) → (l ≡ [] → ⊥) → after_comma l ≡ o → followed next element.directives l ≡ option_map (λ others. element.directives ++ others) (option_and_then next o)
     at_comma next [] o some e = absurd (some refl)
@@ -72,12 +72,12 @@ module _ (whole : Option Rules) (rules : Rules) (rest : List ℕ) where
     -- neither the end nor a comma
     pub stops_there : Holds whole rules rest → (element.rest ≡ [] → ⊥) → after_comma element.rest ≡ None → None ≡ whole
     stops_there (zero, below, same) some e = absurd (omega arith)
-    stops_there (suc k, below, same) some e = sym (ap (option_map (with_more rules)) (at_comma (read k) element.rest None some e)) ∙ turned k ∙ sym same
+    stops_there (suc k, below, same) some e = sym (ap (option_map (with_more rules)) (at_comma (read k) element.rest None some e)) ∙ read_once k ∙ sym same
 
     -- a comma
     pub goes_on : (later : List ℕ) → Holds whole rules rest → (element.rest ≡ [] → ⊥) → after_comma element.rest ≡ Some later → length later < length rest → Holds whole (with_more rules element.directives) later
     goes_on later (zero, below, same) some e shorter = absurd (omega arith)
-    goes_on later (suc k, below, same) some e shorter = (k, omega arith, same ∙ sym (turned k) ∙ ap (option_map (with_more rules)) (at_comma (read k) element.rest (Some later) some e) ∙ by (read k later))
+    goes_on later (suc k, below, same) some e shorter = (k, omega arith, same ∙ sym (read_once k) ∙ ap (option_map (with_more rules)) (at_comma (read k) element.rest (Some later) some e) ∙ by (read k later))
       where
         by : (o : Option (List Directive)) → option_map (with_more rules) (option_map (λ others. element.directives ++ others) o) ≡ option_map (with_more (with_more rules element.directives)) o
         by None = refl

@@ -1,4 +1,4 @@
--- What the directives read so far say, and what those that follow add.
+-- Serves private clauses and proofs alone: what the directives read so far say, and what those that follow add.
 use Rattle.std.specs.Prelude.{ℕ, false, ◌||◌, List, None, unwrap_or, codes}
 use Rattle.std.specs.Option.{option_or}
 use Rattle.cache_terms.specs.declared.offers.Verdict.{Verdict}

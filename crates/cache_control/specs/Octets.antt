@@ -1,11 +1,15 @@
 -- The bytes of header texts (RFC 9110, sections 5.6.2 to 5.6.4).
-use Rattle.std.specs.Prelude.{ℕ, Bool, not, ◌&&◌, ◌||◌, ◌==◌, nat_le, codes}
-use Rattle.std.specs.List.{list_any}
+use Rattle.std.specs.Prelude.{ℕ, List, length, drop, Bool, not, ◌&&◌, ◌||◌, ◌==◌, nat_le, codes}
+use Rattle.std.specs.List.{list_any, take_while}
 use Rattle.std.specs.Char.{is_ascii_alphanumeric}
 
 -- a space or a tab
 abbrev pub is_blank : ℕ → Bool
 is_blank byte = byte == 32 || byte == 9
+
+-- the text without the blanks at its front
+abbrev pub after_blanks : List ℕ → List ℕ
+after_blanks text = drop (length (take_while is_blank text)) text
 
 -- what tokens are made of (section 5.6.2: tchar)
 abbrev pub is_token_byte : ℕ → Bool

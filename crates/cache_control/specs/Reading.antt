@@ -1,14 +1,12 @@
--- The directives of a text as a function, which reads an element at a time. That it agrees with the grammar is a
--- clause of `verdict`.
+-- Serves private clauses and proofs alone: the directives of a text as a function, which reads an element at a time.
+-- That it agrees with the grammar is a clause of `verdict`.
 use Rattle.std.specs.Prelude.{ℕ, ◌+◌, zero, suc, Bool, false, not, ◌&&◌, ◌==◌, if◌then◌else◌, List, [], ◌∷◌, ◌++◌, length, take, drop, Option, None, Some, option_and_then}
 use Rattle.std.specs.Option.{option_map}
 use Rattle.std.specs.List.{take_while}
-use Rattle.cache_control.specs.Octets.{is_blank, is_token_byte, is_quotable}
+use Rattle.cache_control.specs.Octets.{is_token_byte, is_quotable, after_blanks}
+use Rattle.cache_terms.specs.declared.offers.Verdict.{Verdict}
 use Rattle.cache_control.specs.Grammar.{Directive}
-
--- the text without the blanks at its front
-abbrev pub after_blanks : List ℕ → List ℕ
-after_blanks text = drop (length (take_while is_blank text)) text
+use Rattle.cache_control.specs.Rules.{age_of, ruled, refusal}
 
 -- how long the token is with which the text begins
 abbrev pub token_len : List ℕ → ℕ
@@ -75,3 +73,12 @@ read (suc n) text = option_and_then (λ e. followed (read n) e.directives e.rest
 -- the directives of a text, or None where it is no list of directives
 unfoldable pub directives_of : List ℕ → Option (List Directive)
 directives_of text = read (suc (length text)) text
+
+-- what two texts say, by the directives that are read
+abbrev pub judged : Option (List Directive) → ℕ → Verdict
+judged None age = refusal age
+judged (Some directives) age = ruled directives age
+
+abbrev pub verdict_of : Option (List ℕ) → Option (List ℕ) → Verdict
+verdict_of None age = ruled [] (age_of age)
+verdict_of (Some text) age = judged (directives_of text) (age_of age)

@@ -6,9 +6,8 @@ use Rattle.std.specs.Char.{is_ascii_digit}
 use Rattle.std.specs.Str.{str_eq_ignore_ascii_case}
 use Rattle.std.specs.Str.Parse.{digits_value}
 use Rattle.cache_terms.specs.declared.offers.Verdict.{Verdict}
-use Rattle.cache_control.specs.Octets.{is_blank}
+use Rattle.cache_control.specs.Octets.{is_blank, after_blanks}
 use Rattle.cache_control.specs.Grammar.{Directive, IsDirectives}
-use Rattle.cache_control.specs.Reading.{after_blanks, directives_of}
 
 -- the seconds that a text of digits writes, at most 2147483648 (RFC 9111, section 1.2.2)
 abbrev pub seconds_of : List ℕ → Option ℕ
@@ -52,16 +51,13 @@ ruled directives age = record {
 abbrev pub refusal : ℕ → Verdict
 refusal age = record { lifetime = 0; age = age; private = false; no_store = true }
 
--- what the two texts say
-abbrev pub judged : Option (List Directive) → ℕ → Verdict
-judged None age = refusal age
-judged (Some directives) age = ruled directives age
-
-abbrev pub verdict_of : Option (List ℕ) → Option (List ℕ) → Verdict
-verdict_of None age = ruled [] (age_of age)
-verdict_of (Some text) age = judged (directives_of text) (age_of age)
-
 -- the directives of a header text by the grammar; one that is absent has none
 abbrev pub HasDirectives : Option (List ℕ) → List Directive → Type 0
 HasDirectives None directives = directives ≡ []
 HasDirectives (Some text) directives = IsDirectives text directives
+
+-- what the texts of `Cache-Control` and `Age` say: the directives of the first count, and one that is no list of
+-- directives says that the reply must not be kept
+pub record IsVerdict (cache_control age : Option (List ℕ)) (verdict : Verdict) : Type 0 where
+  pub accepted : (directives : List Directive) → HasDirectives cache_control directives → verdict ≡ ruled directives (age_of age)
+  pub refused : ((directives : List Directive) → HasDirectives cache_control directives → ⊥) → verdict ≡ refusal (age_of age)

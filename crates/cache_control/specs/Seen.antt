@@ -1,4 +1,4 @@
--- The parts that the code reads, as the definitions have them.
+-- Serves private clauses and proofs alone: the parts that the code reads, as the definitions have them.
 use Rattle.std.specs.Prelude.{List, [], ◌∷◌, Option, None, Some}
 use Rattle.std.specs.Option.{option_copied}
 use Rattle.cache_control.specs.declared.read.Directive.{Directive as Part}

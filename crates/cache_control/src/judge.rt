@@ -1,7 +1,7 @@
-ghost use Rattle.std.specs.Prelude.{◌≡◌, ◌≤◌, List};
+ghost use Rattle.std.specs.Prelude.{◌≡◌, ◌≤◌};
 ghost use Rattle.std.specs.Option.{option_copied};
-ghost use Rattle.cache_control.specs.Grammar.{Directive};
-ghost use Rattle.cache_control.specs.Rules.{verdict_of, age_of, ruled, refusal, HasDirectives};
+ghost use Rattle.cache_control.specs.Reading.{verdict_of};
+ghost use Rattle.cache_control.specs.Rules.{IsVerdict};
 
 use crate::rules::{age_of, no_rules, rules_of, said};
 use cache_terms::Verdict;
@@ -12,11 +12,9 @@ use flow_base::Text;
 /// must not be kept. A `Cache-Control` that is no list of directives says that it must not be kept. Takes no
 /// memory, and goes over the texts once.
 pub fn verdict(cache_control: Option<&Text>, age: Option<&Text>) -> Verdict
-    ensures value { result ≡ verdict_of (option_copied cache_control.entry) (option_copied age.entry) }
-
     // By the grammar: the directives of the text count, and a text that has none by it is not kept.
-    ensures accepted { (directives : List Directive) → HasDirectives (option_copied cache_control.entry) directives → result ≡ ruled directives (age_of (option_copied age.entry)) }
-    ensures refused { ((directives : List Directive) → HasDirectives (option_copied cache_control.entry) directives → ⊥) → result ≡ refusal (age_of (option_copied age.entry)) }
+    ensures verdict { IsVerdict (option_copied cache_control.entry)
+        (option_copied age.entry) result }
 
     ensures lifetime { result.lifetime ≤ 2147483648 }
     ensures age { result.age ≤ 2147483648 }

@@ -1,8 +1,8 @@
 ghost use Rattle.std.specs.Prelude.{◌≡◌, ◌<◌, ◌≤◌, ◌+◌, false, length, IfSome};
 ghost use Rattle.std.specs.Option.{option_map, option_copied};
 ghost use Rattle.std.specs.List.{take_while};
-ghost use Rattle.cache_control.specs.Octets.{is_blank, is_token_byte, is_quotable};
-ghost use Rattle.cache_control.specs.Reading.{after_blanks, after_comma, token_len, quoted_len, take_argument, named, read_element};
+ghost use Rattle.cache_control.specs.Octets.{is_blank, is_token_byte, is_quotable, after_blanks};
+ghost use Rattle.cache_control.specs.Reading.{after_comma, token_len, quoted_len, take_argument, named, read_element};
 ghost use Rattle.cache_control.specs.Seen.{seen_taken, seen_element};
 
 /// A directive of a text, its argument with quotes taken off.

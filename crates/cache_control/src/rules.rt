@@ -78,7 +78,8 @@ fn noted(rules: Rules, directive: &Option<Directive>) -> Rules
 
 // The seconds known already, else those of the directive where it has the name.
 fn first_seconds(known: Option<u64>, name: &[u8], directive: &Directive) -> Option<u64>
-    ensures { result ≡ option_or known (first_seconds name.now (seen_directive directive.now ∷ [])) }
+    ensures { result
+        ≡ option_or known (first_seconds name.now (seen_directive directive.now ∷ [])) }
 {
     if known.is_some() || !has_name(directive, name) {
         return known;
@@ -120,7 +121,8 @@ fn seconds_of(text: &[u8]) -> Option<u64>
 
 /// The seconds of an `Age`: those before the first comma, or 0 where there are none.
 pub(crate) fn age_of(text: &[u8]) -> u64
-    ensures { result ≡ unwrap_or (seconds_of (trimmed (before_first (λ byte. byte == 44) text.now))) 0 }
+    ensures { result
+        ≡ unwrap_or (seconds_of (trimmed (before_first (λ byte. byte == 44) text.now))) 0 }
 {
     seconds_of(trimmed(before_comma(text))).unwrap_or(0)
 }

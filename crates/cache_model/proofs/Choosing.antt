@@ -50,7 +50,8 @@ own_same : (id : Option (List ℕ)) (J K : List Event) (key : Key) (scope : Opti
 own_same id J K key scope now None s seen h = absurd h
 own_same id J K key scope now (Some q) s seen h = serves_same id J K key scope now q s seen h
 
-own_is_seen : (id : List ℕ) → is_foreign (Some id) (Some id) ≡ false
+-- a caller's own is no other's
+pub own_is_seen : (id : List ℕ) → is_foreign (Some id) (Some id) ≡ false
 own_is_seen id = ap not (nat_list_eq_equiv.refl id)
 
 pub choice_same : (id : Option (List ℕ)) (J K : List Event) (key : Key) (now : ℕ) (hit : Option ℕ) → SameFor id J K → IsChoice J key id now hit → IsChoice K key id now hit

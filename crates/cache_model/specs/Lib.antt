@@ -7,3 +7,4 @@ pub mod State
 pub mod Story
 pub mod Masked
 pub mod Soundness
+pub mod Laws

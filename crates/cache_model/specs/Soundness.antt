@@ -1,4 +1,4 @@
--- What the code asks of a journal that it looks through.
+-- Serves private clauses and proofs alone: what the code asks of a journal that it looks through.
 use Rattle.std.specs.Prelude.{◌≡◌, ℕ, ◌≤◌, true, List, is_some, Some}
 use Rattle.cache_terms.specs.declared.events.Event.{Event}
 use Rattle.cache_model.specs.Journal.{Kept, kept_at}

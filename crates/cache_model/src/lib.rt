@@ -1,7 +1,7 @@
 //! What the cache is: journals, states, and the laws that hold of them.
 //!
 //! It has definitions and laws, and no code. The definitions read from top to bottom in `specs/`: `Journal`,
-//! `Legal`, `State`, `Story`, `Masked`. Each law is the contract of a function with an empty body.
+//! `Legal`, `State`, `Story`, `Masked`, `Laws`. Each law is the contract of a function with an empty body.
 #![tactic(auto)]
 
 mod journals;

@@ -14,13 +14,6 @@ pub struct Key {
     pub sel: Text,
 }
 
-/// Who may be given a piece: everyone, or the caller with this id.
-#[derive(Debug, Drop, PartialEq, Eq, PartialOrd, Ord, Hash)]
-pub enum Scope {
-    Public,
-    Private(Text),
-}
-
 /// What an invalidation names: a subgraph, a type of it, or a tag of it.
 #[derive(Debug, Drop, PartialEq, Eq, PartialOrd, Ord, Hash)]
 pub enum Target {

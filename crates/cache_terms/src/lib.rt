@@ -10,7 +10,7 @@ mod reasons;
 mod tags;
 
 pub use events::{Event, Got, Limits, Mark, Outcome, Reply};
-pub use keys::{Key, Scope, Target, covers};
+pub use keys::{Key, Target, covers};
 pub use offers::{Marks, Offer, Verdict, why};
 pub use reasons::Why;
 pub use tags::{TagList, Tags};

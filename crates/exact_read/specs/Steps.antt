@@ -1,3 +1,4 @@
+-- Serves private clauses and proofs alone.
 -- A machine takes one token at a time, each with its place, and runs up to the first that it refuses.
 use Rattle.std.specs.Prelude.{◌≡◌, ℕ, ◌+◌, List, [], ◌∷◌, ◌++◌, length, Result, Ok, Err}
 

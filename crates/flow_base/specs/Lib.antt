@@ -1,3 +1,5 @@
 pub mod Causes
 pub mod Taking
 pub mod InMemory
+pub mod Logs
+pub mod Clocks

@@ -72,7 +72,15 @@ impl MemSink {
         pieces: Vec<u64>,
         failing: Vec<u64>,
     ) -> Result<MemSink, Memory>
-        ensures { IfOk result (λ s. s ≡ record { written = []; limit = limit; pieces = pieces.items; failing = failing.items; writes = 0; faults = 0 }) }
+        ensures { IfOk result (λ s.
+            s ≡ record {
+              written = [];
+              limit = limit;
+              pieces = pieces.items;
+              failing = failing.items;
+              writes = 0;
+              faults = 0;
+            }) }
     {
         Ok(MemSink {
             taken: Vec::with_capacity(alloc, limit as usize)?,
@@ -92,7 +100,7 @@ impl MemSink {
 }
 
 impl Sink for MemSink {
-    ghost use Rattle.std.specs.Prelude.{◌≡◌, ◌≢◌, ◌↔◌, ◌⊎◌, ◌+◌, ◌<◌, [], Some, Contains, IsErr, IfOk, length};
+    ghost use Rattle.std.specs.Prelude.{◌≡◌, ◌≢◌, ◌↔◌, ◌⊎◌, ◌+◌, ◌<◌, [], Some, Contains, IsErr, IfOk, OnOk, OnErr, length};
     ghost use Rattle.std.specs.Io.{WritesAtMost};
     ghost use Rattle.std.specs.Io.KnownBytes.{WriteAppends};
     ghost use Rattle.flow_base.specs.Causes.{HasCause};
@@ -108,11 +116,14 @@ impl Sink for MemSink {
         ensures bytes { WriteAppends (Some self.old.written) (Some self.new.written) result bytes.now }
         ensures cause { HasCause self.old.faults self.new.faults result }
         ensures fails { IsErr result ↔ Refuses self.old bytes.now }
-        ensures takes { IfOk result (λ n. n ≡ piece_of self.old.pieces self.old.writes (length bytes.now)) }
+        ensures takes { IfOk result (λ n.
+            n ≡ piece_of self.old.pieces self.old.writes (length bytes.now)) }
         ensures counts { self.new.writes ≡ next self.old.writes }
         ensures limit { self.new.limit ≡ self.old.limit }
         ensures pieces { self.new.pieces ≡ self.old.pieces }
         ensures failing { self.new.failing ≡ self.old.failing }
+        ensures quiet { OnOk result (self.new.faults ≡ self.old.faults) }
+        ensures counted { OnErr result (self.new.faults ≡ next self.old.faults) }
     {
         let number = self.writes;
         self.writes = number.saturating_add(1);

@@ -51,7 +51,13 @@ impl MemSource {
     /// Read number k, from 0, gives at most `pieces[k]` bytes, where 0 counts as 1, and past the list
     /// what fits. Reads whose numbers are in `failing` fail and take nothing.
     pub fn of(bytes: Bytes, pieces: Vec<u64>, failing: Vec<u64>) -> MemSource
-        ensures { result ≡ record { left = bytes; pieces = pieces.items; failing = failing.items; reads = 0; faults = 0 } }
+        ensures { result ≡ record {
+          left = bytes;
+          pieces = pieces.items;
+          failing = failing.items;
+          reads = 0;
+          faults = 0;
+        } }
     {
         MemSource {
             bytes,
@@ -79,7 +85,7 @@ impl MemSource {
 }
 
 impl Source for MemSource {
-    ghost use Rattle.std.specs.Prelude.{◌≡◌, ◌↔◌, Some, Contains, IsErr, IfOk, min, length};
+    ghost use Rattle.std.specs.Prelude.{◌≡◌, ◌↔◌, Some, Contains, IsErr, IfOk, OnOk, OnErr, min, length};
     ghost use Rattle.std.specs.Io.{ReadsAtMost};
     ghost use Rattle.std.specs.Io.KnownBytes.{ReadConsumes};
     ghost use Rattle.flow_base.specs.Causes.{HasCause};
@@ -94,10 +100,14 @@ impl Source for MemSource {
         ensures bytes { ReadConsumes (Some self.old.left) (Some self.new.left) result buf.new }
         ensures cause { HasCause self.old.faults self.new.faults result }
         ensures fails { IsErr result ↔ Contains self.old.failing self.old.reads }
-        ensures gives { IfOk result (λ n. n ≡ min (piece_of self.old.pieces self.old.reads (length buf.new)) (length self.old.left)) }
+        ensures gives { IfOk result (λ n.
+            n ≡ min (piece_of self.old.pieces self.old.reads (length buf.new))
+            (length self.old.left)) }
         ensures counts { self.new.reads ≡ next self.old.reads }
         ensures pieces { self.new.pieces ≡ self.old.pieces }
         ensures failing { self.new.failing ≡ self.old.failing }
+        ensures quiet { OnOk result (self.new.faults ≡ self.old.faults) }
+        ensures counted { OnErr result (self.new.faults ≡ next self.old.faults) }
     {
         let number = self.reads;
         self.reads = number.saturating_add(1);

@@ -82,3 +82,20 @@ fn texts_are_seen_by_their_bytes(rt: HostRuntime) -> Result<(), Fail> {
     assert!(rt; !seen.insert(copy)?);
     Ok(())
 }
+
+#[test]
+fn a_clock_gives_its_moments_and_then_the_last(rt: HostRuntime) -> Result<(), Fail> {
+    let alloc = rt.alloc();
+    let mut moments = Vec::new(alloc);
+    for moment in [5, 3, 9] {
+        moments.push(moment)?;
+    }
+    let mut clock = ListClock::of(moments);
+    for want in [5, 3, 9, 9, 9] {
+        assert_eq!(rt; clock.now_ms(), want);
+    }
+    let mut stopped = ListClock::of(Vec::new(alloc));
+    assert_eq!(rt; stopped.now_ms(), 0);
+    assert_eq!(rt; stopped.now_ms(), 0);
+    Ok(())
+}

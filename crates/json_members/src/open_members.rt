@@ -13,10 +13,10 @@ ghost use Rattle.json_members.specs.declared.open_members.Index.TheVariants.{ByD
 use crate::digests::{Digests, digest};
 use flow_base::{Memory, Text};
 use json_value::Json;
-use sqlite_items::Items;
 use std::alloc::Global;
 use std::collections::BTreeSet;
 use std::marker::Model;
+use tree_items::Items;
 
 /// Names of so few members are compared one by one.
 const FEW: usize = 16;

@@ -10,5 +10,5 @@ mod walk;
 
 pub use needs::{Need, Requires};
 pub use part::at;
-pub use path::{Path, Place, Spot, Step};
+pub use path::{Path, Place, Spot, Step, copy_spots, enter, leave};
 pub use walk::places;

@@ -1,8 +1,8 @@
 ghost use Rattle.std.specs.Prelude.{◌≡◌, IfOk};
 
 use flow_base::{Memory, Text};
-use sqlite_items::Items;
 use std::alloc::Global;
+use tree_items::Items;
 
 /// A member that is needed and, where it is an object or a list of objects, what is needed of it.
 #[derive(Debug, Drop)]

@@ -22,7 +22,7 @@ fn part_of<'a>(value: &'a Json, spot: &Spot) -> Option<&'a Json>
 {
     match spot {
         Spot::Name(name) => member(value, name.as_str()),
-        Spot::Index(index) => sqlite_items::at(elements_of(value), *index as usize),
+        Spot::Index(index) => tree_items::at(elements_of(value), *index as usize),
     }
 }
 

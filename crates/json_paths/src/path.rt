@@ -1,8 +1,9 @@
-ghost use Rattle.std.specs.Prelude.{◌≡◌, IfOk};
+ghost use Rattle.std.specs.Prelude.{◌≡◌, [], ◌∷◌, ◌++◌, List, IfOk, OnOk, OnErr};
+ghost use Rattle.json_paths.specs.declared.path.Spot.{Spot as Way};
 
 use flow_base::{Memory, Text};
-use sqlite_items::Items;
 use std::alloc::Global;
+use tree_items::Items;
 
 /// One step of a path: into the member of an object with this name, or into each element of a list.
 #[derive(Debug, Drop)]
@@ -87,6 +88,7 @@ fn copy_steps(alloc: Global, steps: &[Step]) -> Result<Items<Step>, Memory>
     Ok(Items::from_vec(copies))
 }
 
+/// A copy. Fails only for want of memory.
 pub fn copy_spots(alloc: Global, spots: &[Spot]) -> Result<Items<Spot>, Memory>
     ensures { IfOk result (λ c. c ≡ spots.now) }
 {
@@ -95,4 +97,21 @@ pub fn copy_spots(alloc: Global, spots: &[Spot]) -> Result<Items<Spot>, Memory>
         copies.push(spot.copy()?)?;
     }
     Ok(Items::from_vec(copies))
+}
+
+/// Goes one spot further in: puts it behind the others. Fails only for want of memory.
+pub fn enter(spots: &mut Vec<Spot>, spot: Spot) -> Result<(), Memory>
+    ensures ok { OnOk result (spots.new.items ≡ spots.old.items ++ (spot ∷ [])) }
+    ensures err { OnErr result (spots.new.items ≡ spots.old.items) }
+{
+    spots.push(spot)?;
+    Ok(())
+}
+
+/// Goes back out: takes the last spot off, where there is one.
+pub fn leave(spots: &mut Vec<Spot>)
+    ensures back { (outer : List Way) → (last : Way) → spots.old.items ≡ outer ++ (last ∷ []) → spots.new.items ≡ outer }
+    ensures outermost { spots.old.items ≡ [] → spots.new.items ≡ [] }
+{
+    let _ = spots.pop();
 }

@@ -1,9 +1,9 @@
 use crate::{Need, Path, Place, Requires, Spot, Step, at, places};
 use flow_base::{Memory, Text};
 use json_value::Json;
-use sqlite_items::Items;
 use std::alloc::Global;
 use std::test::Fail;
+use tree_items::Items;
 
 fn name(alloc: Global, name: &str) -> Result<Text, Memory> {
     Text::of(alloc, name)

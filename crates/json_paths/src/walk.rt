@@ -4,7 +4,7 @@ ghost use Rattle.json_paths.specs.declared.path.Step.TheVariants as step;
 ghost use Rattle.json_paths.specs.Places.{under, spots_in, places_of, IsPlaceOf};
 
 use crate::part::elements_of;
-use crate::path::{Path, Place, Spot, Step, copy_spots};
+use crate::path::{Path, Place, Spot, Step, copy_spots, enter, leave};
 use flow_base::{Memory, Text};
 use json_value::{Json, member};
 use std::alloc::Global;
@@ -60,9 +60,9 @@ fn walk_member(
     ensures back { OnOk result (spots.new.items ≡ spots.old.items) }
 {
     if let Some(inner) = member(value, name.as_str()) {
-        spots.push(Spot::Name(name.copy()?))?;
+        enter(spots, Spot::Name(name.copy()?))?;
         walk(alloc, inner, steps, spots, found)?;
-        let _ = spots.pop();
+        leave(spots);
     }
     Ok(())
 }
@@ -80,9 +80,9 @@ fn walk_each(
 {
     let items = elements_of(value);
     for i in 0..items.len() {
-        spots.push(Spot::Index(i as u64))?;
+        enter(spots, Spot::Index(i as u64))?;
         walk(alloc, &items[i], steps, spots, found)?;
-        let _ = spots.pop();
+        leave(spots);
     }
     Ok(())
 }

@@ -1,9 +1,9 @@
 use crate::print;
 use flow_base::{Memory, Text};
 use json_value::Json;
-use sqlite_items::Items;
 use std::alloc::Global;
 use std::test::Fail;
+use tree_items::Items;
 
 /// `{"p": 19.90}` with two members more: every escape, and every kind of value.
 fn example(alloc: Global) -> Result<Json, Memory> {

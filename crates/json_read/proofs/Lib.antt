@@ -22,3 +22,4 @@ pub mod Escapes
 pub mod NamesAt
 pub mod Places
 pub mod Explained
+pub mod OneValue

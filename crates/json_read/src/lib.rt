@@ -10,5 +10,5 @@ mod string;
 #[cfg(test)]
 mod tests;
 
-pub use laws::fault_is_one;
+pub use laws::{fault_is_one, text_has_one_value};
 pub use reader::read;

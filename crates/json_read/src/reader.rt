@@ -21,9 +21,9 @@ use crate::string::{Part, Progress, scan};
 use flow_base::Text;
 use json_members::Members;
 use json_value::{Json, JsonFault};
-use sqlite_items::Items;
 use std::alloc::Global;
 use std::mem;
+use tree_items::Items;
 
 #[derive(Clone, Copy, Debug, PartialEq, Eq)]
 pub enum Word {

@@ -1,6 +1,9 @@
 pub use Rattle.json_value.specs.Grammar
 pub use Rattle.json_value.specs.Strings
+pub use Rattle.json_value.specs.Numbers
 pub use Rattle.json_value.specs.Members
 pub use Rattle.json_value.specs.Wholes
+pub use Rattle.json_value.specs.Laws
 pub use Rattle.json_read.specs.Faults
 pub use Rattle.json_print.specs.Print
+pub use Rattle.json_print.specs.Escapes

@@ -6,6 +6,7 @@
 
 mod compare;
 mod fault;
+mod laws;
 mod members;
 #[cfg(test)]
 mod tests;
@@ -14,6 +15,7 @@ mod wholes;
 
 pub use compare::equal;
 pub use fault::JsonFault;
+pub use laws::{parts_have_texts, spells_deeper};
 pub use members::member;
 pub use tree::{Json, copy};
 pub use wholes::whole;

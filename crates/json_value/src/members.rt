@@ -1,4 +1,4 @@
-ghost use Rattle.std.specs.Prelude.{◌≡◌};
+ghost use Rattle.std.specs.Prelude.{◌≡◌, ◌↔◌, IsSome, Contains};
 ghost use Rattle.std.specs.Option.{option_copied};
 ghost use Rattle.json_value.specs.Members as spec;
 
@@ -19,7 +19,8 @@ fn named<'a>(members: &'a [(Text, Json)], name: &str) -> Option<&'a Json>
 /// The value of the first member with this name, and None of an object that has none and of what is no object.
 /// Takes time in the number of members.
 pub fn member<'a>(value: &'a Json, name: &str) -> Option<&'a Json>
-    ensures { option_copied result ≡ spec.member value.now name.now }
+    ensures value { option_copied result ≡ spec.member value.now name.now }
+    ensures found { IsSome result ↔ Contains (spec.names value.now) name.now }
 {
     match value {
         Json::Object(members) => named(members.as_slice(), name),

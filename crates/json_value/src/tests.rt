@@ -1,7 +1,7 @@
 use crate::{Json, copy, equal, member, whole};
 use flow_base::{Memory, Text};
-use sqlite_items::Items;
 use std::alloc::Global;
+use tree_items::Items;
 
 fn sample(alloc: Global) -> Result<Json, Memory> {
     let mut members = Items::new(alloc);

@@ -1,8 +1,8 @@
 ghost use Rattle.std.specs.Prelude.{◌≡◌, IfOk};
 
 use flow_base::{Memory, Text};
-use sqlite_items::Items;
 use std::alloc::Global;
+use tree_items::Items;
 
 /// A JSON value (RFC 8259, section 3). A number is kept as the text that it was written as, and a string as the
 /// characters that it spells. Members keep their order; those of a value that was read have distinct names.

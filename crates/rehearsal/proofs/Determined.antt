@@ -1,13 +1,11 @@
 -- What is written for a script is determined, but for want of memory.
 use Rattle.std.proofs.Common.{◌≡◌, ◌≢◌, inl, inr, ℕ, ◌+◌, ◌<◌, ◌≤◌, List, [], ◌∷◌, ◌++◌, get_or, Option, refl, ap, sym, ◌∙◌, subst, append_assoc, arith}
-use Rattle.std.specs.Prelude.{codes}
 use Rattle.std.specs.List.{onto_first}
-use Rattle.std.specs.Fmt.{decimal}
 use Rattle.std.specs.FinMap as map
 use Rattle.std.proofs.lemmas.Option.{same_Some}
 use Rattle.cache_terms.specs.declared.keys.Key.{Key}
 use Rattle.cache_terms.specs.declared.keys.Target.{Target}
-use Rattle.cache_book.specs.Step.{Pinned, Granted}
+use Rattle.cache_book.specs.Permits.{Pinned, Granted}
 use Rattle.cache_book.specs.Calls as call
 use Rattle.cache_book.specs.Calls.{Step}
 use Rattle.cache_book.specs.declared.answers.Settled.{Settled}
@@ -17,10 +15,13 @@ use Rattle.cache_book.specs.declared.permit.Report.{Report}
 use Rattle.cache_book.specs.declared.permit.Report.TheVariants as report
 use Rattle.cache_book.specs.declared.found.Found.{Found}
 use Rattle.cache_book.proofs.Determined.{step_unique}
-use Rattle.cache_control.specs.Rules.{verdict_of}
+use Rattle.cache_control.proofs.Laws.{verdict_unique}
+use Rattle.cache_terms.specs.declared.offers.Verdict.{Verdict}
 use Rattle.script_lines.specs.Script.{words, IsQuiet}
 use Rattle.script_lines.specs.Commands.{Says}
-use Rattle.script_lines.specs.Replies.{line_of, settled_text}
+use Rattle.script_lines.specs.Replies.{reply_text}
+use Rattle.script_lines.specs.declared.replies.Reply.{Reply}
+use Rattle.script_lines.specs.declared.replies.Reply.TheVariants as replies
 use Rattle.script_lines.specs.declared.commands.Command.{Command}
 use Rattle.script_lines.specs.declared.commands.Command.TheVariants as command
 use Rattle.script_lines.specs.declared.replies.Cause.{Cause}
@@ -28,8 +29,8 @@ use Rattle.script_lines.specs.declared.replies.Cause.TheVariants as cause
 use Rattle.script_lines.proofs.Forms.{first, letter, first_letter}
 use Rattle.script_lines.proofs.Reading.{readings_agree}
 use Rattle.rehearsal.specs.Scene.{Scene, handed}
-use Rattle.rehearsal.specs.Texts.{found_text, void_text, tally_text, refusal}
-use Rattle.rehearsal.specs.Acts.{DoesBegin, DoesLook, DoesSettle, DoesVoid, DoesTally, Does, Lacks, Plays, Refuses, offered, told}
+use Rattle.rehearsal.specs.Replied.{found_reply, settled_reply, void_reply, tally_reply, refusal}
+use Rattle.rehearsal.specs.Acts.{DoesBegin, DoesLook, DoesSettle, DoesVoid, DoesTally, Does, Lacks, Plays, Refuses, offered, stated}
 use Rattle.rehearsal.specs.Runs.{Extent, Whole, Refused, Front, Ends, Runs, IsComplete}
 
 -- COMMANDS
@@ -49,14 +50,14 @@ closed_found s e = absurd cc
 voided_found : (v : Voided) → call.Voided v ≢ call.OutOfMemory
 voided_found v e = absurd cc
 
-told_found : (t : Tally) → call.Told t ≢ call.OutOfMemory
-told_found t e = absurd cc
+tallied_found : (t : Tally) → call.Tallied t ≢ call.OutOfMemory
+tallied_found t e = absurd cc
 
-begins_same : (old : Scene) (who : ℕ) (x y : List ℕ) (n m : Scene) → DoesBegin old who x n → DoesBegin old who y m → (x ≡ y) × (n ≡ m)
+begins_same : (old : Scene) (who : ℕ) (x y : Reply) (n m : Scene) → DoesBegin old who x n → DoesBegin old who y m → (x ≡ y) × (n ≡ m)
 begins_same old who x y n m h k =
     let one = step_unique old.book (call.Begin who) (call.Begun h.pass) (call.Begun k.pass) n.book m.book (begun_found h.pass) (begun_found k.pass) h.step k.step in
     let pass : h.pass ≡ k.pass = cc (one.0) in (
-      h.says ∙ ap (λ (p : Pinned). line_of (codes "epoch" ∷ decimal p.epoch ∷ [])) pass ∙ sym k.says,
+      h.says ∙ ap (λ (p : Pinned). replies.Epoch p.epoch) pass ∙ sym k.says,
       same_scene n m one.1 (h.passes ∙ ap (λ (p : Pinned). map.insert old.passes who p) pass ∙ sym k.passes) (h.hand ∙ sym k.hand),
     )
 
@@ -64,49 +65,52 @@ abbrev first_or : Found → List Found → Found
 first_or d [] = d
 first_or d (f ∷ fs) = f
 
-looks_same : (old : Scene) (who : ℕ) (id : Option (List ℕ)) (now : ℕ) (key : Key) (x y : List ℕ) (n m : Scene) → DoesLook old who id now key x n → DoesLook old who id now key y m → (x ≡ y) × (n ≡ m)
+looks_same : (old : Scene) (who : ℕ) (id : Option (List ℕ)) (now : ℕ) (key : Key) (x y : Reply) (n m : Scene) → DoesLook old who id now key x n → DoesLook old who id now key y m → (x ≡ y) × (n ≡ m)
 looks_same old who id now key x y n m h k =
     let pass : h.pass ≡ k.pass = same_Some h.pass k.pass (sym h.pass_is ∙ k.pass_is) in
     let step = subst (λ (p : Pinned). Step old.book (call.Look p id (key ∷ []) now) (call.Looked (h.answer ∷ [])) n.book) pass h.step in
     let one = step_unique old.book (call.Look k.pass id (key ∷ []) now) (call.Looked (h.answer ∷ [])) (call.Looked (k.answer ∷ [])) n.book m.book (looked_found (h.answer ∷ [])) (looked_found (k.answer ∷ [])) step k.step in
     let answers : h.answer ∷ [] ≡ k.answer ∷ [] = cc (one.0) in
     let answer : h.answer ≡ k.answer = ap (first_or h.answer) answers in
-    (h.says ∙ ap found_text answer ∙ sym k.says, same_scene n m one.1 (h.passes ∙ sym k.passes) (h.hand ∙ ap (handed old.hand) answer ∙ sym k.hand))
+    (h.says ∙ ap found_reply answer ∙ sym k.says, same_scene n m one.1 (h.passes ∙ sym k.passes) (h.hand ∙ ap (handed old.hand) answer ∙ sym k.hand))
 
-settles_same : (old : Scene) (epoch ticket : ℕ) (by : Report) (x y : List ℕ) (n m : Scene) → DoesSettle old epoch ticket by x n → DoesSettle old epoch ticket by y m → (x ≡ y) × (n ≡ m)
+settles_same : (old : Scene) (epoch ticket : ℕ) (by : Report) (x y : Reply) (n m : Scene) → DoesSettle old epoch ticket by x n → DoesSettle old epoch ticket by y m → (x ≡ y) × (n ≡ m)
 settles_same old epoch ticket by x y n m h k =
     let permit : h.permit ≡ k.permit = same_Some h.permit k.permit (sym h.held ∙ k.held) in
     let step = subst (λ (p : Granted). Step old.book (call.Settle p by) (call.Closed h.settled) n.book) permit h.step in
     let one = step_unique old.book (call.Settle k.permit by) (call.Closed h.settled) (call.Closed k.settled) n.book m.book (closed_found h.settled) (closed_found k.settled) step k.step in
     let settled : h.settled ≡ k.settled = cc (one.0) in
-    (h.says ∙ ap (λ (s : Settled). settled_text s.position s.outcome) settled ∙ sym k.says, same_scene n m one.1 (h.passes ∙ sym k.passes) (h.hand ∙ sym k.hand))
+    (h.says ∙ ap settled_reply settled ∙ sym k.says, same_scene n m one.1 (h.passes ∙ sym k.passes) (h.hand ∙ sym k.hand))
 
-voids_same : (old : Scene) (who : ℕ) (t : Target) (x y : List ℕ) (n m : Scene) → DoesVoid old who t x n → DoesVoid old who t y m → (x ≡ y) × (n ≡ m)
+voids_same : (old : Scene) (who : ℕ) (t : Target) (x y : Reply) (n m : Scene) → DoesVoid old who t x n → DoesVoid old who t y m → (x ≡ y) × (n ≡ m)
 voids_same old who t x y n m h k =
     let one = step_unique old.book (call.Invalidate who t) (call.Voided h.answer) (call.Voided k.answer) n.book m.book (voided_found h.answer) (voided_found k.answer) h.step k.step in
     let answer : h.answer ≡ k.answer = cc (one.0) in
-    (h.says ∙ ap void_text answer ∙ sym k.says, same_scene n m one.1 (h.passes ∙ sym k.passes) (h.hand ∙ sym k.hand))
+    (h.says ∙ ap void_reply answer ∙ sym k.says, same_scene n m one.1 (h.passes ∙ sym k.passes) (h.hand ∙ sym k.hand))
 
-tallies_same : (old : Scene) (x y : List ℕ) (n m : Scene) → DoesTally old x n → DoesTally old y m → (x ≡ y) × (n ≡ m)
+tallies_same : (old : Scene) (x y : Reply) (n m : Scene) → DoesTally old x n → DoesTally old y m → (x ≡ y) × (n ≡ m)
 tallies_same old x y n m h k =
-    let one = step_unique old.book call.Tally (call.Told h.answer) (call.Told k.answer) n.book m.book (told_found h.answer) (told_found k.answer) h.step k.step in
+    let one = step_unique old.book call.Tally (call.Tallied h.answer) (call.Tallied k.answer) n.book m.book (tallied_found h.answer) (tallied_found k.answer) h.step k.step in
     let answer : h.answer ≡ k.answer = cc (one.0) in
-    (h.says ∙ ap tally_text answer ∙ sym k.says, same_scene n m one.1 (h.passes ∙ sym k.passes) (h.hand ∙ sym k.hand))
+    (h.says ∙ ap tally_reply answer ∙ sym k.says, same_scene n m one.1 (h.passes ∙ sym k.passes) (h.hand ∙ sym k.hand))
 
-does_same : (old : Scene) (c : Command) (x y : List ℕ) (n m : Scene) → Does old c x n → Does old c y m → (x ≡ y) × (n ≡ m)
+does_same : (old : Scene) (c : Command) (x y : Reply) (n m : Scene) → Does old c x n → Does old c y m → (x ≡ y) × (n ≡ m)
 does_same old (command.Begin who) x y n m h k = begins_same old who x y n m h k
 does_same old (command.Look who id now key) x y n m h k = looks_same old who id now key x y n m h k
-does_same old (command.Settle epoch ticket lifetime age private tags value) x y n m h k = settles_same old epoch ticket (report.Got (offered 200 (told lifetime age private) tags value)) x y n m h k
-does_same old (command.Reply epoch ticket status age tags value cache_control) x y n m h k = settles_same old epoch ticket (report.Got (offered status (verdict_of cache_control age) tags value)) x y n m h k
+does_same old (command.Settle epoch ticket lifetime age private tags value) x y n m h k = settles_same old epoch ticket (report.Got (offered 200 (stated lifetime age private) tags value)) x y n m h k
+does_same old (command.Reply epoch ticket status age tags value cache_control) x y n m h k =
+    let same : h.0 ≡ k.0 = verdict_unique cache_control age (h.0) (k.0) h.1 k.1 in
+    settles_same old epoch ticket (report.Got (offered status (k.0) tags value)) x y n m
+    (subst (λ (v : Verdict). DoesSettle old epoch ticket (report.Got (offered status v tags value)) x n) same h.2) k.2
 does_same old (command.Fail epoch ticket) x y n m h k = settles_same old epoch ticket report.Failed x y n m h k
 does_same old (command.Void who t) x y n m h k = voids_same old who t x y n m h k
 does_same old command.Tally x y n m h k = tallies_same old x y n m h k
 
 -- a command that is carried out lacks nothing
-lacks_not_does : (old : Scene) (c : Command) (why : Cause) (x : List ℕ) (n : Scene) → Lacks old c why → Does old c x n → ⊥
+lacks_not_does : (old : Scene) (c : Command) (why : Cause) (x : Reply) (n : Scene) → Lacks old c why → Does old c x n → ⊥
 lacks_not_does old (command.Look who id now key) cause.Who x n l d = absurd cc (sym l ∙ d.pass_is)
 lacks_not_does old (command.Settle epoch ticket lifetime age private tags value) cause.Ticket x n l d = absurd cc (sym l ∙ d.held)
-lacks_not_does old (command.Reply epoch ticket status age tags value cache_control) cause.Ticket x n l d = absurd cc (sym l ∙ d.held)
+lacks_not_does old (command.Reply epoch ticket status age tags value cache_control) cause.Ticket x n l d = absurd cc (sym l ∙ d.2.held)
 lacks_not_does old (command.Fail epoch ticket) cause.Ticket x n l d = absurd cc (sym l ∙ d.held)
 lacks_not_does old other why x n l d = absurd l
 
@@ -155,22 +159,23 @@ quiet_no_command line c q h =
 
 pub plays_same : (old : Scene) (line x y : List ℕ) (n m : Scene) → Plays old line x n → Plays old line y m → (x ≡ y) × (n ≡ m)
 plays_same old line x y n m (inl h) (inl k) = (h.1 ∙ sym k.1, h.2 ∙ sym k.2)
-plays_same old line x y n m (inl h) (inr k) = absurd (quiet_no_command line (k.0) h.0 k.1)
-plays_same old line x y n m (inr h) (inl k) = absurd (quiet_no_command line (h.0) k.0 h.1)
+plays_same old line x y n m (inl h) (inr k) = absurd (quiet_no_command line (k.0) h.0 k.2)
+plays_same old line x y n m (inr h) (inl k) = absurd (quiet_no_command line (h.0) k.0 h.2)
 plays_same old line x y n m (inr h) (inr k) =
-    let one = readings_agree (words line) (h.0) (k.0) h.1 k.1 in
-    does_same old (k.0) x y n m (subst (λ (c : Command). Does old c x n) one h.2) k.2
+    let one = readings_agree (words line) (h.0) (k.0) h.2 k.2 in
+    let same = does_same old (k.0) (h.1) (k.1) n m (subst (λ (c : Command). Does old c (h.1) n) one h.3) k.3 in
+    (h.4 ∙ ap reply_text same.0 ∙ sym k.4, same.1)
 
 -- a line that is carried out is not refused
 lacked : (old : Scene) (line x : List ℕ) (n : Scene) (why : Cause) → Plays old line x n → (c : Command) × Says (words line) c × Lacks old c why → ⊥
 lacked old line x n why (inl h) r = quiet_no_command line (r.0) h.0 r.1
 lacked old line x n why (inr h) r =
-    let one = readings_agree (words line) (r.0) (h.0) r.1 h.1 in
-    lacks_not_does old (h.0) why x n (subst (λ (c : Command). Lacks old c why) one r.2) h.2
+    let one = readings_agree (words line) (r.0) (h.0) r.1 h.2 in
+    lacks_not_does old (h.0) why (h.1) n (subst (λ (c : Command). Lacks old c why) one r.2) h.3
 
 plays_not_refused : (old : Scene) (line x : List ℕ) (n : Scene) (why : Cause) → Plays old line x n → Refuses old line why → ⊥
 plays_not_refused old line x n cause.Word (inl h) r = r.0 h.0
-plays_not_refused old line x n cause.Word (inr h) r = r.1 (h.0) h.1
+plays_not_refused old line x n cause.Word (inr h) r = r.1 (h.0) h.2
 plays_not_refused old line x n cause.Who h r = lacked old line x n cause.Who h r
 plays_not_refused old line x n cause.Ticket h r = lacked old line x n cause.Ticket h r
 

@@ -20,7 +20,7 @@ use Rattle.cache_book.specs.declared.found.Found.TheVariants as found
 use Rattle.cache_book.specs.declared.permit.Report.{Report}
 use Rattle.cache_model.specs.Journal.{starts, reserved, is_start}
 use Rattle.cache_model.specs.State.{State, begun, turns, turned}
-use Rattle.cache_book.specs.Step.{Pinned, Granted}
+use Rattle.cache_book.specs.Permits.{Pinned, Granted}
 use Rattle.cache_book.specs.Settling.{Settles, SettlesBy, Appends}
 use Rattle.cache_terms.specs.declared.keys.Target.{Target}
 use Rattle.cache_terms.specs.declared.events.Event.TheVariants.{Invalidate}
@@ -32,7 +32,7 @@ use Rattle.cache_book.specs.Looking.{Asked, Looks, LooksBy, bypass_mark, granted
 use Rattle.cache_book.specs.Owed.{IsOwedAnswer, KeepsPermits, KeepsOthers, KeepsEarlier}
 use Rattle.rehearsal.specs.Names.{name_cmp}
 use Rattle.rehearsal.specs.Scene.{Permits, with_permit}
-use Rattle.rehearsal.specs.Held.{IsHeld, IsReady, IsNew, IsTakeable}
+use Rattle.rehearsal.specs.InHand.{IsInHand, IsReady, IsNew, IsTakeable}
 use Rattle.rehearsal.proofs.Maps.{name_total, name_same}
 
 -- names
@@ -112,8 +112,8 @@ ticket_same t u e = cc
 
 -- a permit of another name may still be settled
 held_settled : (old : State) (k : ℕ × ℕ) (p : Granted) (new : State) → p.epoch ≡ k.0 → p.mark ≡ mark.Ticket k.1 → Where old p new
-    → KeepsOthers old p new → (name : ℕ × ℕ) (q : Granted) → IsHeld old name q → name ≢ k → IsHeld new name q
-held_settled old k p new epoch_is mark_is (inl same) keeps name q h other = subst (λ (s : State). IsHeld s name q) (sym same) h
+    → KeepsOthers old p new → (name : ℕ × ℕ) (q : Granted) → IsInHand old name q → name ≢ k → IsInHand new name q
+held_settled old k p new epoch_is mark_is (inl same) keeps name q h other = subst (λ (s : State). IsInHand s name q) (sym same) h
 held_settled old k p new epoch_is mark_is (inr w) keeps name q h other = record {
   epoch_is = h.epoch_is;
   ticket_is = h.ticket_is;
@@ -145,11 +145,11 @@ pub remove_ready : (book : State) (hand : Permits) (k : ℕ × ℕ) (new : Permi
 remove_ready book hand k new is ready name p there = ready name p (in_remove hand k name p (sym (ap (λ (h : Permits). map.get h name) is) ∙ there)).1
 
 -- where a permit is taken in hand, all are ready
-pub insert_ready : (book : State) (hand : Permits) (t : ℕ) (p : Granted) → IsHeld book (p.epoch, t) p → IsReady book hand → IsReady book (map.insert hand (p.epoch, t) p)
+pub insert_ready : (book : State) (hand : Permits) (t : ℕ) (p : Granted) → IsInHand book (p.epoch, t) p → IsReady book hand → IsReady book (map.insert hand (p.epoch, t) p)
 insert_ready book hand t p own ready name q is = from (in_insert hand (p.epoch, t) p name q is)
   where
-    from : ((name ≡ (p.epoch, t)) × (p ≡ q)) ⊎ (map.get hand name ≡ Some q) → IsHeld book name q
-    from (inl e) = subst (λ (n : ℕ × ℕ). IsHeld book n q) (sym e.0) (subst (λ (g : Granted). IsHeld book (p.epoch, t) g) e.1 own)
+    from : ((name ≡ (p.epoch, t)) × (p ≡ q)) ⊎ (map.get hand name ≡ Some q) → IsInHand book name q
+    from (inl e) = subst (λ (n : ℕ × ℕ). IsInHand book n q) (sym e.0) (subst (λ (g : Granted). IsInHand book (p.epoch, t) g) e.1 own)
     from (inr there) = ready name q there
 
 -- look
@@ -200,7 +200,7 @@ pub record IsKept (hand : Permits) (a : Found) (new : State) : Type 0 where
   pub ready : IsReady new hand
   pub takeable : IsTakeable new hand a
 
-held_later : (old new : State) (name : ℕ × ℕ) (q : Granted) → KeepsPermits old new → new.epoch ≡ old.epoch → starts old.journal ≤ starts new.journal → IsHeld old name q → IsHeld new name q
+held_later : (old new : State) (name : ℕ × ℕ) (q : Granted) → KeepsPermits old new → new.epoch ≡ old.epoch → starts old.journal ≤ starts new.journal → IsInHand old name q → IsInHand new name q
 held_later old new name q keeps same more h = record {
   epoch_is = h.epoch_is;
   ticket_is = h.ticket_is;

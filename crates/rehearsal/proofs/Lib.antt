@@ -1,6 +1,6 @@
 pub mod Maps
 pub mod Holding
 pub mod Playing
-pub mod Telling
+pub mod Written
 pub mod Determined
 pub mod Onward

@@ -1,8 +1,10 @@
 pub mod Names
+pub mod Outside
 pub mod Scene
-pub mod Texts
+pub mod Replied
 pub mod Acts
-pub mod Held
+pub mod InHand
 pub mod Runs
-pub mod Turning
+pub mod Answering
 pub mod Rehearsing
+pub mod Laws

@@ -7,6 +7,7 @@ use Rattle.flow_base.specs.Taking.{TakesWhole, TakesLong}
 use Rattle.script_lines.specs.Script.{lines}
 use Rattle.rehearsal.specs.declared.stage.Ending.{Ending}
 use Rattle.rehearsal.specs.declared.stage.Ending.TheVariants as ending
+use Rattle.rehearsal.specs.Outside.{Output, Outside}
 use Rattle.rehearsal.specs.Scene.{opening}
 use Rattle.rehearsal.specs.Runs.{Extent, Whole, Refused, Front, Runs}
 
@@ -31,54 +32,48 @@ pub record IsNoScript (left rest : Option (List ℕ)) (out : List ℕ) (extent :
   pub says : IsRefusedScript out extent
 
 -- what may be written for the input, and how far it goes
-abbrev pub Tells : Limits → Option (List ℕ) → Option (List ℕ) → List ℕ → Extent → Type 0
-Tells limits left rest out extent = IsPlayed limits left rest out extent ⊎ IsNoScript left rest out extent
+abbrev pub MayWrite : Limits → Option (List ℕ) → Option (List ℕ) → List ℕ → Extent → Type 0
+MayWrite limits left rest out extent = IsPlayed limits left rest out extent ⊎ IsNoScript left rest out extent
 
 -- all that may be written to this extent was written
-abbrev pub WritesTo : (List ℕ → Extent → Type 0) → Extent → Option (List ℕ) → Option (List ℕ) → Type 0
-WritesTo Told extent written new = (out : List ℕ) × Told out extent × Appends written new out
+abbrev pub WritesTo : (List ℕ → Extent → Type 0) → Extent → Output → Output → Type 0
+WritesTo May extent old new = (out : List ℕ) × May out extent × Appends old.written new.written out
 
 -- a front of what may be written was written
-abbrev pub WritesCut : (List ℕ → Extent → Type 0) → Option (List ℕ) → Option (List ℕ) → Type 0
-WritesCut Told written new = (out : List ℕ) × (extent : Extent) × Told out extent × AppendsFront written new out
+abbrev pub WritesCut : (List ℕ → Extent → Type 0) → Output → Output → Type 0
+WritesCut May old new = (out : List ℕ) × (extent : Extent) × May out extent × AppendsFront old.written new.written out
 
--- what was written where this may be told, and how it ended
-module _ (Told : List ℕ → Extent → Type 0) (written new : Option (List ℕ)) (sink_before sink_after : ℕ) where
-  abbrev pub Writes : Ending → Type 0
-  Writes ending.Finished = WritesTo Told Whole written new
-  Writes ending.Refused = WritesTo Told Refused written new
-  Writes ending.SinkFailed = Rose sink_before sink_after × WritesCut Told written new
-  Writes ending.NoMemory = WritesTo Told Front written new
-  Writes ending.SourceFailed = ⊥
+-- what was written where this may be written, and how it ended
+module _ (May : List ℕ → Extent → Type 0) (old new : Output) where
+  abbrev pub EndsWith : Ending → Type 0
+  EndsWith ending.Finished = WritesTo May Whole old new
+  EndsWith ending.Refused = WritesTo May Refused old new
+  EndsWith ending.SinkFailed = Rose old.faults new.faults × WritesCut May old new
+  EndsWith ending.NoMemory = WritesTo May Front old new
+  EndsWith ending.SourceFailed = ⊥
 
 -- the status of an ending
-abbrev pub status : Ending → ℕ
-status ending.Finished = 0
-status ending.Refused = 5
-status ending.SourceFailed = 6
-status ending.SinkFailed = 7
-status ending.NoMemory = 9
+abbrev pub status_of : Ending → ℕ
+status_of ending.Finished = 0
+status_of ending.Refused = 5
+status_of ending.SourceFailed = 6
+status_of ending.SinkFailed = 7
+status_of ending.NoMemory = 9
 
--- what a rehearsal reads and writes, and how it ends
-module _ (limits : Limits) (left rest : Option (List ℕ)) (source_before source_after : ℕ) (written new : Option (List ℕ)) (sink_before sink_after : ℕ) where
+-- what an ending says of what was read and written
+module _ (limits : Limits) (old new : Outside) where
   abbrev pub Rehearses : Ending → Type 0
-  Rehearses ending.Finished = Writes (Tells limits left rest) written new sink_before sink_after ending.Finished
-  Rehearses ending.Refused = Writes (Tells limits left rest) written new sink_before sink_after ending.Refused
-  Rehearses ending.SinkFailed = Writes (Tells limits left rest) written new sink_before sink_after ending.SinkFailed
-  Rehearses ending.SourceFailed = Rose source_before source_after × Keeps written new
-  Rehearses ending.NoMemory = Keeps written new ⊎ Writes (Tells limits left rest) written new sink_before sink_after ending.NoMemory
+  -- the script was done to its end, and every reply is written
+  Rehearses ending.Finished = WritesTo (MayWrite limits old.input.left new.input.left) Whole old.output new.output
+  -- the script or a line of it is refused, and all up to that text is written
+  Rehearses ending.Refused = WritesTo (MayWrite limits old.input.left new.input.left) Refused old.output new.output
+  -- the source failed, and nothing is written
+  Rehearses ending.SourceFailed = Rose old.input.faults new.input.faults × Keeps old.output.written new.output.written
+  -- the sink failed, and a front is written
+  Rehearses ending.SinkFailed = Rose old.output.faults new.output.faults × WritesCut (MayWrite limits old.input.left new.input.left) old.output new.output
+  -- memory ran out: nothing is written, or the replies of some first lines, whole
+  Rehearses ending.NoMemory = Keeps old.output.written new.output.written ⊎ WritesTo (MayWrite limits old.input.left new.input.left) Front old.output new.output
 
-  -- what each status says
-  pub record IsRehearsed (n : ℕ) : Type 0 where
-    -- no other status comes
-    pub known : (n ≡ 0) ⊎ ((n ≡ 5) ⊎ ((n ≡ 6) ⊎ ((n ≡ 7) ⊎ (n ≡ 9))))
-    -- the script was done to its end, and every reply is written
-    pub finished : n ≡ 0 → WritesTo (Tells limits left rest) Whole written new
-    -- the script or a line of it is refused, and all up to that text is written
-    pub refused : n ≡ 5 → WritesTo (Tells limits left rest) Refused written new
-    -- the source failed, and nothing is written
-    pub unread : n ≡ 6 → Rose source_before source_after × Keeps written new
-    -- the sink failed, and a front is written
-    pub cut : n ≡ 7 → Rose sink_before sink_after × WritesCut (Tells limits left rest) written new
-    -- memory ran out: nothing is written, or the replies of some first lines, whole
-    pub short : n ≡ 9 → Keeps written new ⊎ WritesTo (Tells limits left rest) Front written new
+-- a rehearsal has one of five endings: the status is that of the ending, and what it says holds
+abbrev pub IsRehearsed : Limits → Outside → ℕ → Outside → Type 0
+IsRehearsed limits old status new = (e : Ending) × (status ≡ status_of e) × Rehearses limits old new e

@@ -2,7 +2,7 @@
 use Rattle.std.specs.Prelude.{◌≡◌, ◌⊎◌, ℕ, ◌+◌, List, [], ◌∷◌, ◌++◌}
 use Rattle.script_lines.specs.declared.replies.Cause.{Cause}
 use Rattle.rehearsal.specs.Scene.{Scene}
-use Rattle.rehearsal.specs.Texts.{refusal}
+use Rattle.rehearsal.specs.Replied.{refusal}
 use Rattle.rehearsal.specs.Acts.{Plays, Refuses}
 
 -- how far a text goes: to the end of the script, to a line that is refused, or through some lines
@@ -24,7 +24,7 @@ abbrev pub Runs : ℕ → Scene → List (List ℕ) → List ℕ → Extent → 
 Runs number s [] out extent = Ends number s [] out extent
 Runs number s (line ∷ lines) out extent =
     Ends number s (line ∷ lines) out extent
-    ⊎ ((reply rest : List ℕ) × (next : Scene) × Plays s line reply next × Runs (number + 1) next lines rest extent × (out ≡ reply ++ rest))
+    ⊎ ((text rest : List ℕ) × (next : Scene) × Plays s line text next × Runs (number + 1) next lines rest extent × (out ≡ text ++ rest))
 
 -- the text goes to the end of the script, or to a line that is refused
 abbrev pub IsComplete : Extent → Type 0

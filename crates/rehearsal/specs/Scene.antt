@@ -6,7 +6,7 @@ use Rattle.cache_terms.specs.declared.events.Limits.{Limits}
 use Rattle.cache_terms.specs.declared.events.Mark.{Mark}
 use Rattle.cache_terms.specs.declared.events.Mark.TheVariants as mark
 use Rattle.cache_model.specs.State.{State}
-use Rattle.cache_book.specs.Step.{Pinned, Granted}
+use Rattle.cache_book.specs.Permits.{Pinned, Granted}
 use Rattle.cache_book.specs.declared.found.Found.{Found}
 use Rattle.cache_book.specs.declared.found.Found.TheVariants as found
 use Rattle.rehearsal.specs.Names.{name_cmp}

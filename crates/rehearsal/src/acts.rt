@@ -7,17 +7,17 @@ ghost use Rattle.cache_book.specs.declared.permit.Report.TheVariants.{Failed};
 ghost use Rattle.cache_book.specs.Calls.{Step, Settle, Closed};
 ghost use Rattle.cache_book.specs.Settling.{MaySettle};
 ghost use Rattle.rehearsal.specs.Scene.{handed, with_permit};
-ghost use Rattle.rehearsal.specs.Texts.{found_text};
-ghost use Rattle.rehearsal.specs.Held.{IsReady, IsNew, IsTakeable, Asks};
+ghost use Rattle.rehearsal.specs.Replied.{found_reply};
+ghost use Rattle.rehearsal.specs.InHand.{IsReady, IsNew, IsTakeable, LooksOnce};
 
 use crate::hand::Hand;
 use cache_book::{Book, Fill, Found, Pass, Permit, Report};
 use cache_terms::{Key, Mark};
 use flow_base::{Memory, Text};
-use script_lines::{bypass_line, hit_line, miss_line};
+use script_lines::Reply;
 use std::alloc::Global;
 
-/// Asks for one piece, and tells the answer.
+/// Asks for one piece, and replies with the answer.
 pub fn ask(
     alloc: Global,
     book: &mut Book,
@@ -26,17 +26,18 @@ pub fn ask(
     id: Option<&Text>,
     now: u64,
     key: Key,
-) -> Result<Text, Memory>
+) -> Result<Reply, Memory>
     requires { IsReady book.old hand.old }
-    ensures asks { IfOk result (λ reply. Asks pass (option_copied id.entry) now key book.old hand.old reply book.new hand.new) }
+    ensures looks { IfOk result (λ reply.
+        LooksOnce pass (option_copied id.entry) now key book.old hand.old reply book.new hand.new) }
     ensures ready { IsReady book.new hand.new }
 {
     let asks = one(alloc, key)?;
     let answers = book.look(&pass, id, asks, now)?;
-    keep(alloc, book, hand, only(answers))
+    keep(book, hand, only(answers))
 }
 
-fn one(alloc: Global, key: Key) -> Result<Vec<Key>, Memory>
+pub fn one(alloc: Global, key: Key) -> Result<Vec<Key>, Memory>
     ensures { IfOk result (λ asks. asks.items ≡ key ∷ []) }
 {
     let mut asks = Vec::new(alloc);
@@ -44,7 +45,7 @@ fn one(alloc: Global, key: Key) -> Result<Vec<Key>, Memory>
     Ok(asks)
 }
 
-fn only(answers: Vec<Found>) -> Found
+pub fn only(answers: Vec<Found>) -> Found
     requires { (a : Found) × (answers.items ≡ a ∷ []) }
     ensures { answers.items ≡ result ∷ [] }
 {
@@ -56,14 +57,14 @@ fn only(answers: Vec<Found>) -> Found
     found
 }
 
-/// Takes the permit of an answer, and tells the answer.
-fn keep(alloc: Global, book: &mut Book, hand: &mut Hand, found: Found) -> Result<Text, Memory>
+/// Takes the permit of an answer, and replies with the answer.
+fn keep(book: &mut Book, hand: &mut Hand, found: Found) -> Result<Reply, Memory>
     requires owed { IsOwedAnswer book.old found }
     requires ready { IsReady book.old hand.old }
     requires takeable { IsTakeable book.old hand.old found }
     ensures book { OnOk result (book.new ≡ book.old) }
     ensures hand { OnOk result (hand.new ≡ handed hand.old found) }
-    ensures text { IfOk result (λ t. t ≡ found_text found) }
+    ensures reply { IfOk result (λ reply. reply ≡ found_reply found) }
     ensures ready { IsReady book.new hand.new }
 {
     match found {
@@ -73,17 +74,25 @@ fn keep(alloc: Global, book: &mut Book, hand: &mut Hand, found: Found) -> Result
             value,
             left_ms: _,
             private: _,
-        } => hit_line(alloc, lookup, stored, &value),
+        } => Ok(Reply::Hit {
+            lookup,
+            stored,
+            value,
+        }),
         Found::Miss { lookup, permit } => {
             let epoch = permit.epoch();
             let mark = *permit.mark();
             hold(book, hand, permit)?;
-            miss_line(alloc, lookup, epoch, mark)
+            Ok(Reply::Miss {
+                lookup,
+                epoch,
+                mark,
+            })
         }
         Found::Bypass { permit } => {
             let mark = *permit.mark();
             hold(book, hand, permit)?;
-            bypass_line(alloc, mark)
+            Ok(Reply::Bypass { mark })
         }
     }
 }
@@ -116,7 +125,8 @@ fn hold(book: &mut Book, hand: &mut Hand, permit: Permit) -> Result<(), Memory>
 fn spend(book: &mut Book, permit: Permit)
     requires { MaySettle book.old permit }
     ensures keeps { KeepsOthers book.old permit book.new }
-    ensures step { (settled : Settled) × Step book.old (Settle permit Failed) (Closed settled) book.new }
+    ensures step { (settled : Settled)
+        × Step book.old (Settle permit Failed) (Closed settled) book.new }
 {
     let _settled = book.settle(Fill {
         permit,

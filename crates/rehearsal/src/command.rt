@@ -1,9 +1,10 @@
 ghost use Rattle.std.specs.Prelude.{◌≡◌, ◌≤◌};
 ghost use Rattle.cache_model.specs.State.{IsWithinRanges};
 ghost use Rattle.script_lines.specs.Script.{lines};
+ghost use Rattle.rehearsal.specs.Outside.{input, output, outside};
 ghost use Rattle.rehearsal.specs.Scene.{opening};
 ghost use Rattle.rehearsal.specs.Runs.{Runs};
-ghost use Rattle.rehearsal.specs.Rehearsing.{IsRehearsed, Rehearses, Writes, IsRefusedScript, status};
+ghost use Rattle.rehearsal.specs.Rehearsing.{IsRehearsed, Rehearses, EndsWith, IsRefusedScript, status_of};
 
 use crate::play::play;
 use crate::stage::{Ending, Stage};
@@ -27,7 +28,12 @@ pub fn rehearse<S: Source, K: Sink>(
     sink: &mut K,
 ) -> u8
     requires { IsWithinRanges limits }
-    ensures rehearsed { IsRehearsed limits (S.left source.old) (S.left source.new) (S.faults source.old) (S.faults source.new) (K.written sink.old) (K.written sink.new) (K.faults sink.old) (K.faults sink.new) result }
+    ensures rehearsed { IsRehearsed limits
+        (outside (input (S.left source.old) (S.faults source.old))
+        (output (K.written sink.old) (K.faults sink.old)))
+        result
+        (outside (input (S.left source.new) (S.faults source.new))
+        (output (K.written sink.new) (K.faults sink.new))) }
     ensures source_later { S.faults source.old ≤ S.faults source.new }
     ensures sink_later { K.faults sink.old ≤ K.faults sink.new }
 {
@@ -36,7 +42,7 @@ pub fn rehearse<S: Source, K: Sink>(
 
 // The status of an ending.
 fn status(ending: Ending) -> u8
-    ensures { result ≡ status ending }
+    ensures { result ≡ status_of ending }
 {
     match ending {
         Ending::Finished => 0,
@@ -49,7 +55,12 @@ fn status(ending: Ending) -> u8
 
 fn run<S: Source, K: Sink>(alloc: Global, limits: Limits, source: &mut S, sink: &mut K) -> Ending
     requires { IsWithinRanges limits }
-    ensures rehearses { Rehearses limits (S.left source.old) (S.left source.new) (S.faults source.old) (S.faults source.new) (K.written sink.old) (K.written sink.new) (K.faults sink.old) (K.faults sink.new) result }
+    ensures rehearses { Rehearses limits
+        (outside (input (S.left source.old) (S.faults source.old))
+        (output (K.written sink.old) (K.faults sink.old)))
+        (outside (input (S.left source.new) (S.faults source.new))
+        (output (K.written sink.new) (K.faults sink.new)))
+        result }
     ensures source_later { S.faults source.old ≤ S.faults source.new }
     ensures sink_later { K.faults sink.old ≤ K.faults sink.new }
 {
@@ -67,7 +78,9 @@ fn run<S: Source, K: Sink>(alloc: Global, limits: Limits, source: &mut S, sink: 
 // Runs a script on a new book.
 fn perform<K: Sink>(alloc: Global, limits: Limits, script: &str, sink: &mut K) -> Ending
     requires { IsWithinRanges limits }
-    ensures writes { Writes (Runs 1 (opening limits) (lines script.now)) (K.written sink.old) (K.written sink.new) (K.faults sink.old) (K.faults sink.new) result }
+    ensures ends { EndsWith (Runs 1 (opening limits) (lines script.now))
+        (output (K.written sink.old) (K.faults sink.old))
+        (output (K.written sink.new) (K.faults sink.new)) result }
     ensures later { K.faults sink.old ≤ K.faults sink.new }
 {
     match Stage::open(alloc, limits) {
@@ -83,7 +96,9 @@ fn perform<K: Sink>(alloc: Global, limits: Limits, script: &str, sink: &mut K) -
 
 // Refuses the whole script.
 fn refuse_script<K: Sink>(sink: &mut K) -> Ending
-    ensures writes { Writes IsRefusedScript (K.written sink.old) (K.written sink.new) (K.faults sink.old) (K.faults sink.new) result }
+    ensures ends { EndsWith IsRefusedScript
+        (output (K.written sink.old) (K.faults sink.old))
+        (output (K.written sink.new) (K.faults sink.new)) result }
     ensures later { K.faults sink.old ≤ K.faults sink.new }
 {
     match put_all(sink, "script refused\n".as_bytes()) {

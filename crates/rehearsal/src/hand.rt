@@ -10,7 +10,7 @@ pub struct Hand {
 
 impl Model for Hand {
     ghost use Rattle.std.specs.FinMap as map;
-    ghost use Rattle.cache_book.specs.Step.{Granted};
+    ghost use Rattle.cache_book.specs.Permits.{Granted};
     ghost use Rattle.rehearsal.specs.Names.{name_cmp};
     ghost use Rattle.std.specs.Coded.{coded×, coded_ℕ};
     ghost use Rattle.cache_book.specs.contracts.permit.Permit as permit;
@@ -23,7 +23,7 @@ impl Model for Hand {
 }
 
 impl Hand {
-    ghost use Rattle.rehearsal.specs.Held.{IsReady};
+    ghost use Rattle.rehearsal.specs.InHand.{IsReady};
     ghost use Rattle.std.specs.Prelude.{◌≡◌, OnOk, OnErr, IfErr, None};
     ghost use Rattle.std.specs.FinMap as map;
 

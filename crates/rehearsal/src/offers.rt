@@ -1,13 +1,13 @@
 ghost use Rattle.std.specs.Prelude.{◌≡◌, ◌≤◌};
 ghost use Rattle.std.specs.Option.{option_copied};
-ghost use Rattle.cache_control.specs.Rules.{verdict_of};
-ghost use Rattle.rehearsal.specs.Acts.{offered, told};
+ghost use Rattle.cache_control.specs.Rules.{IsVerdict};
+ghost use Rattle.rehearsal.specs.Acts.{offered, stated};
 
 use cache_control::verdict;
 use cache_terms::{Marks, Offer, Tags, Verdict};
 use flow_base::Text;
 
-/// A reply as it came, of whose marks only the status is told.
+/// A reply as it came, of whose marks only the status is known.
 pub fn offered(status: u16, verdict: Verdict, tags: Tags, value: Text) -> Offer
     ensures { result ≡ offered status verdict tags value }
 {
@@ -25,9 +25,9 @@ pub fn offered(status: u16, verdict: Verdict, tags: Tags, value: Text) -> Offer
     }
 }
 
-/// What a script says of the headers.
-pub fn told(lifetime: u64, age: u64, private: bool) -> Verdict
-    ensures { result ≡ told lifetime age private }
+/// What a script states in place of headers.
+pub fn stated(lifetime: u64, age: u64, private: bool) -> Verdict
+    ensures { result ≡ stated lifetime age private }
 {
     Verdict {
         lifetime,
@@ -45,7 +45,9 @@ pub fn replied(
     tags: Tags,
     value: Text,
 ) -> Offer
-    ensures offer { result ≡ offered status (verdict_of (option_copied cache_control.entry) (option_copied age.entry)) tags value }
+    ensures verdict { IsVerdict
+        (option_copied cache_control.entry) (option_copied age.entry) result.verdict }
+    ensures offer { result ≡ offered status result.verdict tags value }
     ensures lifetime { result.verdict.lifetime ≤ 2147483648 }
     ensures age { result.verdict.age ≤ 2147483648 }
 {

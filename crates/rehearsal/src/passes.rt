@@ -13,7 +13,7 @@ pub struct Passes {
 impl Model for Passes {
     ghost use Rattle.std.specs.FinMap as map;
     ghost use Rattle.std.specs.Ordering.{nat_cmp};
-    ghost use Rattle.cache_book.specs.Step.{Pinned};
+    ghost use Rattle.cache_book.specs.Permits.{Pinned};
     ghost use Rattle.std.specs.Coded.{coded_ℕ};
     ghost use Rattle.cache_book.specs.contracts.pass.Pass as pass;
 

@@ -1,16 +1,14 @@
 ghost use Rattle.std.specs.Prelude.{◌≡◌};
-ghost use Rattle.rehearsal.specs.Texts.{begun_by};
+ghost use Rattle.rehearsal.specs.Replied.{begun_by};
 
 use crate::acts::ask;
 use crate::hand::Hand;
-use crate::offers::{offered, replied, told};
+use crate::offers::{offered, replied, stated};
 use crate::passes::Passes;
 use cache_book::{Book, Fill, Notice, Report, Turned};
 use cache_terms::{Key, Target};
 use flow_base::{Memory, Text};
-use script_lines::{
-    Cause, Command, epoch_line, is_quiet, read_command, settled_line, tally_line, voided_line,
-};
+use script_lines::{Cause, Command, Reply, is_quiet, read_command};
 use std::alloc::Global;
 use std::marker::Model;
 
@@ -24,11 +22,11 @@ pub enum Ending {
     NoMemory,
 }
 
-/// The answer to a line.
+/// What came of a line.
 #[derive(Drop)]
-pub enum Answer {
+pub enum Played {
     Quiet,
-    Says(Text),
+    Replied(Reply),
     Refused(Cause),
 }
 
@@ -42,7 +40,7 @@ pub struct Stage {
 
 impl Model for Stage {
     ghost use Rattle.rehearsal.specs.Scene.{Scene};
-    ghost use Rattle.rehearsal.specs.Held.{IsReady};
+    ghost use Rattle.rehearsal.specs.InHand.{IsReady};
     ghost use Rattle.std.specs.Coded.{codes};
     ghost use Rattle.cache_book.specs.contracts.book.Book as book_type;
     ghost use Rattle.rehearsal.specs.contracts.passes.Passes as passes_type;
@@ -50,7 +48,12 @@ impl Model for Stage {
 
     ghost Value = { Scene };
 
-    ghost coded = { Prim.hlevel (codes, book_type.the_row.coded, passes_type.the_row.coded, hand_type.the_row.coded) };
+    ghost coded = { Prim.hlevel (
+      codes,
+      book_type.the_row.coded,
+      passes_type.the_row.coded,
+      hand_type.the_row.coded,
+    ) };
 
     ghost view = { λ s. record { book = s.book; passes = s.passes; hand = s.hand } };
 
@@ -64,7 +67,7 @@ impl Stage {
     ghost use Rattle.script_lines.specs.declared.commands.Command.TheVariants as command;
     ghost use Rattle.rehearsal.specs.Scene.{opening};
     ghost use Rattle.rehearsal.specs.Acts.{DoesBegin, DoesVoid, DoesTally};
-    ghost use Rattle.rehearsal.specs.Turning.{Answers, Carries, CarriesSettle, IsTold};
+    ghost use Rattle.rehearsal.specs.Answering.{Answers, Carries, CarriesSettle, StatesSpans};
 
     pub fn open(alloc: Global, limits: cache_terms::Limits) -> Result<Stage, Memory>
         requires { IsWithinRanges limits }
@@ -79,24 +82,24 @@ impl Stage {
     }
 
     /// Answers a line.
-    pub fn answer(&mut self, line: &str) -> Result<Answer, Memory>
+    pub fn answer(&mut self, line: &str) -> Result<Played, Memory>
         ensures { IfOk result (λ a. Answers self.old line.now a self.new) }
     {
         if is_quiet(line) {
-            return Ok(Answer::Quiet);
+            return Ok(Played::Quiet);
         }
         match read_command(self.alloc, line)? {
-            None => Ok(Answer::Refused(Cause::Word)),
+            None => Ok(Played::Refused(Cause::Word)),
             Some(command) => self.carry_out(command),
         }
     }
 
-    fn carry_out(&mut self, command: Command) -> Result<Answer, Memory>
-        requires { IsTold command }
+    fn carry_out(&mut self, command: Command) -> Result<Played, Memory>
+        requires { StatesSpans command }
         ensures { IfOk result (λ a. Carries self.old command a self.new) }
     {
         match command {
-            Command::Begin { who } => Ok(Answer::Says(self.begin(who)?)),
+            Command::Begin { who } => Ok(Played::Replied(self.begin(who)?)),
             Command::Look { who, id, now, key } => self.look(who, id, now, key),
             Command::Settle {
                 epoch,
@@ -107,10 +110,10 @@ impl Stage {
                 tags,
                 value,
             } => {
-                let offer = offered(200, told(lifetime, age, private), tags, value);
-                self.settle(epoch, ticket, Report::Got(offer))
+                let offer = offered(200, stated(lifetime, age, private), tags, value);
+                Ok(self.settle(epoch, ticket, Report::Got(offer)))
             }
-            Command::Fail { epoch, ticket } => self.settle(epoch, ticket, Report::Failed),
+            Command::Fail { epoch, ticket } => { Ok(self.settle(epoch, ticket, Report::Failed)) }
             Command::Reply {
                 epoch,
                 ticket,
@@ -121,28 +124,28 @@ impl Stage {
                 cache_control,
             } => {
                 let offer = replied(status, cache_control.as_ref(), age.as_ref(), tags, value);
-                self.settle(epoch, ticket, Report::Got(offer))
+                Ok(self.settle(epoch, ticket, Report::Got(offer)))
             }
-            Command::Void { who, target } => Ok(Answer::Says(self.void(who, &target)?)),
-            Command::Tally => Ok(Answer::Says(self.tally()?)),
+            Command::Void { who, target } => Ok(Played::Replied(self.void(who, &target)?)),
+            Command::Tally => Ok(Played::Replied(self.tally())),
         }
     }
 
-    fn begin(&mut self, who: u32) -> Result<Text, Memory>
+    fn begin(&mut self, who: u32) -> Result<Reply, Memory>
         ensures { IfOk result (λ reply. DoesBegin self.old who reply self.new) }
     {
         let pass = self.book.begin(who);
         let epoch = pass.epoch();
         self.passes.note(pass)?;
-        epoch_line(self.alloc, epoch)
+        Ok(Reply::Epoch { epoch })
     }
 
-    fn look(&mut self, who: u32, id: Option<Text>, now: u64, key: Key) -> Result<Answer, Memory>
+    fn look(&mut self, who: u32, id: Option<Text>, now: u64, key: Key) -> Result<Played, Memory>
         ensures { IfOk result (λ a. Carries self.old (command.Look who id now key) a self.new) }
     {
         match self.passes.last(who) {
-            None => Ok(Answer::Refused(Cause::Who)),
-            Some(pass) => Ok(Answer::Says(ask(
+            None => Ok(Played::Refused(Cause::Who)),
+            Some(pass) => Ok(Played::Replied(ask(
                 self.alloc,
                 &mut self.book,
                 &mut self.hand,
@@ -154,39 +157,44 @@ impl Stage {
         }
     }
 
-    fn settle(&mut self, epoch: u64, ticket: u64, report: Report) -> Result<Answer, Memory>
+    fn settle(&mut self, epoch: u64, ticket: u64, report: Report) -> Played
         requires { IsInRange report }
-        ensures { IfOk result (λ a. CarriesSettle self.old epoch ticket report a self.new) }
+        ensures { CarriesSettle self.old epoch ticket report result self.new }
     {
         match self.hand.take(epoch, ticket) {
-            None => Ok(Answer::Refused(Cause::Ticket)),
+            None => Played::Refused(Cause::Ticket),
             Some(permit) => {
                 let settled = self.book.settle(Fill { permit, report });
-                Ok(Answer::Says(settled_line(self.alloc, settled.position, settled.outcome)?))
+                Played::Replied(Reply::Settled {
+                    position: settled.position,
+                    outcome: settled.outcome,
+                })
             }
         }
     }
 
-    fn void(&mut self, who: u32, target: &Target) -> Result<Text, Memory>
+    fn void(&mut self, who: u32, target: &Target) -> Result<Reply, Memory>
         ensures { IfOk result (λ reply. DoesVoid self.old who target.now reply self.new) }
     {
         let notice = Notice::of(target)?;
         let answer = self.book.invalidate(who, notice);
-        let turned = begun_by(answer.turned, answer.epoch);
-        voided_line(self.alloc, turned, answer.position, answer.count)
+        Ok(Reply::Voided {
+            began: begun_by(answer.turned, answer.epoch),
+            position: answer.position,
+            count: answer.count,
+        })
     }
 
-    fn tally(&mut self) -> Result<Text, Memory>
-        ensures { IfOk result (λ reply. DoesTally self.old reply self.new) }
+    fn tally(&mut self) -> Reply
+        ensures { DoesTally self.old result self.new }
     {
         let tally = self.book.tally();
-        tally_line(
-            self.alloc,
-            tally.epoch,
-            tally.events,
-            tally.bytes,
-            tally.pending,
-        )
+        Reply::Tally {
+            epoch: tally.epoch,
+            events: tally.events,
+            bytes: tally.bytes,
+            pending: tally.pending,
+        }
     }
 
     /// Settles the permits in hand as Failed.

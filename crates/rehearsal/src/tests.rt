@@ -14,9 +14,9 @@ struct Row {
     status: u8,
 }
 
-/// What a rehearsal answered.
+/// What was answered and written.
 #[derive(Drop)]
-struct Played {
+struct Given {
     status: u8,
     written: Vec<u8>,
 }
@@ -30,7 +30,7 @@ fn play(
     piece: u64,
     failing_reads: Vec<u64>,
     failing_writes: Vec<u64>,
-) -> Result<Played, Memory> {
+) -> Result<Given, Memory> {
     if limits.events < 8 || limits.events > 65536 || limits.bytes < 16 || limits.bytes > 268435456 {
         return Err(Memory);
     }
@@ -39,7 +39,7 @@ fn play(
     let mut sink = MemSink::of(alloc, 4096, Vec::new(alloc), failing_writes)?;
     let status = rehearse(alloc, limits, &mut source, &mut sink);
     let written = Vec::from_slice(alloc, sink.written())?;
-    Ok(Played { status, written })
+    Ok(Given { status, written })
 }
 
 fn plays(alloc: Global, row: &Row, piece: u64) -> bool {
@@ -59,8 +59,8 @@ fn plays(alloc: Global, row: &Row, piece: u64) -> bool {
         Vec::new(alloc),
     ) {
         Err(_) => false,
-        Ok(played) => {
-            played.status == row.status && played.written.as_slice() == row.output.as_bytes()
+        Ok(given) => {
+            given.status == row.status && given.written.as_slice() == row.output.as_bytes()
         }
     }
 }
@@ -184,12 +184,44 @@ fn further_lines(rt: HostRuntime) {
             output: "epoch 0\n0 miss 0.0\n2 failed\nepoch 0 events 3 bytes 0 open 0\n",
             status: 0,
         },
-        // A reply that tells of a failure.
+        // A reply of another status than 200.
         Row {
             events: 64,
             bytes: 4096,
             script: "begin 1\nlook 1 - 0 a T r s\nreply 0.0 503 - - v max-age=60\n",
             output: "epoch 0\n0 miss 0.0\n2 unstorable status 503\n",
+            status: 0,
+        },
+        // Of two invalidations that cover a fetch the later one counts.
+        Row {
+            events: 64,
+            bytes: 4096,
+            script: "begin 1\nlook 1 - 0 a T r s\nvoid 2 sub a\nvoid 2 type a T\nsettle 0.0 60 0 public - v\n",
+            output: "epoch 0\n0 miss 0.0\n2 voided 0\n3 voided 0\n4 void 3\n",
+            status: 0,
+        },
+        // A fetch that was covered is void, whether there is room for it or not.
+        Row {
+            events: 64,
+            bytes: 16,
+            script: "begin 1\nlook 1 - 0 a T r s\nvoid 2 sub a\nsettle 0.0 60 0 public - 0123456789abcdefg\n",
+            output: "epoch 0\n0 miss 0.0\n2 voided 0\n3 void 2\n",
+            status: 0,
+        },
+        // A public piece answers where the private one is stale.
+        Row {
+            events: 64,
+            bytes: 4096,
+            script: "begin 1\nlook 1 A 0 a T r s\nsettle 0.0 1 0 private - p\nlook 1 - 0 a T r s\nsettle 0.1 60 0 public - q\nlook 1 A 999 a T r s\nlook 1 A 1000 a T r s\n",
+            output: "epoch 0\n0 miss 0.0\n2 stored\n3 miss 0.1\n5 stored\n6 hit 2 p\n7 hit 5 q\n",
+            status: 0,
+        },
+        // A piece that was superseded is not counted.
+        Row {
+            events: 64,
+            bytes: 4096,
+            script: "begin 1\nlook 1 - 0 a T r s\nlook 1 - 0 a T r s\nsettle 0.0 60 0 public - x\nsettle 0.1 60 0 public - y\nvoid 1 sub a\n",
+            output: "epoch 0\n0 miss 0.0\n2 miss 0.1\n4 stored\n5 stored\n6 voided 1\n",
             status: 0,
         },
         // Blank lines and comments are counted.
@@ -221,7 +253,7 @@ const SIX_OUT: &[u8] =
     b"epoch 0\n0 miss 0.0\n2 stored\n3 hit 2 v\n4 voided 1\nepoch 0 events 5 bytes 1 open 0\n";
 
 /// How the six lines are played where one read or one write fails. The script comes in pieces of 20 bytes.
-fn fails(alloc: Global, failing_reads: Vec<u64>, failing_writes: Vec<u64>) -> Option<Played> {
+fn fails(alloc: Global, failing_reads: Vec<u64>, failing_writes: Vec<u64>) -> Option<Given> {
     let limits = Limits {
         events: 64,
         bytes: 4096,
@@ -238,20 +270,20 @@ fn is_unread(alloc: Global, read: u64) -> bool {
     };
     match fails(alloc, failing, Vec::new(alloc)) {
         None => false,
-        Some(played) => played.status == 6 && played.written.is_empty(),
+        Some(given) => given.status == 6 && given.written.is_empty(),
     }
 }
 
-/// Whether the sink's failure at the write of this number is told, and the replies before it are written.
+/// Whether the sink's failure at the write of this number is answered, and the replies before it are written.
 fn is_cut(alloc: Global, write: u64) -> bool {
     let Ok(failing) = vec![in alloc; write; 1] else {
         return false;
     };
-    let Some(played) = fails(alloc, Vec::new(alloc), failing) else {
+    let Some(given) = fails(alloc, Vec::new(alloc), failing) else {
         return false;
     };
-    let lines = played.written.iter().filter(|b| **b == b'\n').count();
-    played.status == 7 && lines as u64 == write && SIX_OUT.starts_with(&played.written)
+    let lines = given.written.iter().filter(|b| **b == b'\n').count();
+    given.status == 7 && lines as u64 == write && SIX_OUT.starts_with(&given.written)
 }
 
 #[test]
@@ -280,7 +312,7 @@ fn is_sized(alloc: Global, script: Vec<u8>, output: &[u8], status: u8) -> bool {
         Vec::new(alloc),
     ) {
         Err(_) => false,
-        Ok(played) => played.status == status && played.written.as_slice() == output,
+        Ok(given) => given.status == status && given.written.as_slice() == output,
     }
 }
 

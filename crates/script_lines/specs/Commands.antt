@@ -40,7 +40,7 @@ pub record IsOptionalWord (w : List ℕ) (text : Option (List ℕ)) : Type 0 whe
   pub some : 0 < length w
 
 -- W, the number of a caller
-pub record IsCaller (w : List ℕ) (who : ℕ) : Type 0 where
+pub record IsCallerNumber (w : List ℕ) (who : ℕ) : Type 0 where
   pub number : IsNumber w who
   pub within : who ≤ 65535
 
@@ -82,12 +82,12 @@ pub record IsKey (line : List (List ℕ)) (at : ℕ) (key : Key) : Type 0 where
 -- begin W
 pub record SaysBegin (line : List (List ℕ)) (who : ℕ) : Type 0 where
   pub form : HasForm line (codes "begin") 2
-  pub who_is : IsCaller (word line 1) who
+  pub who_is : IsCallerNumber (word line 1) who
 
 -- look W ID NOW SUB TYPE REP SEL
 pub record SaysLook (line : List (List ℕ)) (who : ℕ) (id : Option (List ℕ)) (now : ℕ) (key : Key) : Type 0 where
   pub form : HasForm line (codes "look") 8
-  pub who_is : IsCaller (word line 1) who
+  pub who_is : IsCallerNumber (word line 1) who
   pub id_is : IsOptionalWord (word line 2) id
   pub now_is : IsNumber (word line 3) now
   pub key_is : IsKey line 4 key
@@ -137,7 +137,7 @@ SaysTarget line (target.OfType sub type_name) = SaysVoidWithin line (codes "type
 SaysTarget line (target.Tag sub tag) = SaysVoidWithin line (codes "tag") sub tag
 
 pub record SaysVoid (line : List (List ℕ)) (who : ℕ) (target : Target) : Type 0 where
-  pub who_is : IsCaller (word line 1) who
+  pub who_is : IsCallerNumber (word line 1) who
   pub target_is : SaysTarget line target
 
 -- the words are this command

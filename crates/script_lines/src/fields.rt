@@ -2,7 +2,7 @@ ghost use Rattle.std.specs.Prelude.{◌≡◌, ℕ, Bool, length, MatchOption, I
 ghost use Rattle.cache_terms.specs.declared.keys.Key.{Key};
 ghost use Rattle.cache_terms.specs.declared.tags.Tags.{Tags};
 ghost use Rattle.script_lines.specs.Script.{words, IsNumber};
-ghost use Rattle.script_lines.specs.Commands.{IsCaller, IsTicket, IsSpan, IsStatus, IsScope, IsOptional, IsText, IsTagWord, IsKey};
+ghost use Rattle.script_lines.specs.Commands.{IsCallerNumber, IsTicket, IsSpan, IsStatus, IsScope, IsOptional, IsText, IsTagWord, IsKey};
 
 use crate::lines::{parts_of, word_at};
 use cache_terms::{Key, Tags};
@@ -34,22 +34,20 @@ pub fn number(word: &str) -> Option<u64>
 
 /// The caller that the word names.
 pub fn caller(word: &str) -> Option<u32>
-    ensures { MatchOption result ((n : ℕ) → IsCaller word.now n → ⊥) (λ n. IsCaller word.now n) }
+    ensures { MatchOption result
+        ((n : ℕ) → IsCallerNumber word.now n → ⊥)
+        (λ n. IsCallerNumber word.now n) }
 {
-    match number(word) {
-        None => None,
-        Some(n) => { if n > 65535 { None } else { Some(n as u32) } }
-    }
+    let n = number(word)?;
+    if n > 65535 { None } else { Some(n as u32) }
 }
 
 /// The seconds that the word is.
 pub fn span(word: &str) -> Option<u64>
     ensures { MatchOption result ((n : ℕ) → IsSpan word.now n → ⊥) (λ n. IsSpan word.now n) }
 {
-    match number(word) {
-        None => None,
-        Some(n) => { if n > 2147483648 { None } else { Some(n) } }
-    }
+    let n = number(word)?;
+    if n > 2147483648 { None } else { Some(n) }
 }
 
 /// The status that the word is.
@@ -68,18 +66,14 @@ pub fn status_of(word: &str) -> Option<u16>
 
 /// The epoch and the ticket that the word names.
 pub fn ticket_of(word: &str) -> Option<(u64, u64)>
-    ensures { MatchOption result ((e t : ℕ) → IsTicket word.now e t → ⊥) (λ x. IsTicket word.now x.0 x.1) }
+    ensures { MatchOption result
+        ((e t : ℕ) → IsTicket word.now e t → ⊥)
+        (λ x. IsTicket word.now x.0 x.1) }
 {
-    match word.split_once('.') {
-        None => None,
-        Some((before, after)) => match number(before) {
-            None => None,
-            Some(epoch) => match number(after) {
-                None => None,
-                Some(ticket) => Some((epoch, ticket)),
-            },
-        },
-    }
+    let (before, after) = word.split_once('.')?;
+    let epoch = number(before)?;
+    let ticket = number(after)?;
+    Some((epoch, ticket))
 }
 
 /// Whether a piece is private, by its scope.
@@ -104,7 +98,9 @@ pub fn optional(alloc: Global, text: &str) -> Result<Option<Text>, Memory>
 
 /// The text, unless it is empty.
 pub fn text_of(alloc: Global, word: &str) -> Result<Option<Text>, Memory>
-    ensures { IfOk result (λ o. MatchOption o (length word.now ≡ 0) (λ text. IsText word.now text)) }
+    ensures { IfOk result (λ o. MatchOption o
+        (length word.now ≡ 0)
+        (λ text. IsText word.now text)) }
 {
     if word.is_empty() {
         return Ok(None);
@@ -114,7 +110,9 @@ pub fn text_of(alloc: Global, word: &str) -> Result<Option<Text>, Memory>
 
 /// The tags that the word is, which are joined by commas, or none for `-`.
 pub fn read_tags(alloc: Global, word: &str) -> Result<Option<Tags>, Memory>
-    ensures { IfOk result (λ o. MatchOption o ((tags : Tags) → IsTagWord word.now tags → ⊥) (λ tags. IsTagWord word.now tags)) }
+    ensures { IfOk result (λ o. MatchOption o
+        ((tags : Tags) → IsTagWord word.now tags → ⊥)
+        (λ tags. IsTagWord word.now tags)) }
 {
     if word == "-" {
         return Ok(Some(Tags::of(alloc, Vec::new(alloc))?));
@@ -127,7 +125,9 @@ pub fn read_tags(alloc: Global, word: &str) -> Result<Option<Tags>, Memory>
 
 /// The key that the words from the fifth on are.
 pub fn read_key(alloc: Global, line: &str) -> Result<Option<Key>, Memory>
-    ensures { IfOk result (λ o. MatchOption o ((key : Key) → IsKey (words line.now) 4 key → ⊥) (λ key. IsKey (words line.now) 4 key)) }
+    ensures { IfOk result (λ o. MatchOption o
+        ((key : Key) → IsKey (words line.now) 4 key → ⊥)
+        (λ key. IsKey (words line.now) 4 key)) }
 {
     let Some(sub) = text_of(alloc, word_at(line, 4))? else {
         return Ok(None);

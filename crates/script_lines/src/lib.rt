@@ -15,10 +15,7 @@ pub use commands::{Command, read_command};
 pub use fields::number;
 pub use laws::one_reading;
 pub use lines::{first_line, is_quiet};
-pub use replies::{
-    Cause, bypass_line, epoch_line, hit_line, miss_line, refused_line, settled_line, tally_line,
-    voided_line,
-};
+pub use replies::{Cause, Reply, reply_line};
 
 #[cfg(test)]
 mod tests;

@@ -10,7 +10,8 @@ use std::alloc::Global;
 fn first_piece(text: &str, separator: char) -> (&str, Option<&str>)
     requires { separator < 128 }
     ensures shorter { IfSome result.1 (λ rest. length rest.now < length text.now) }
-    ensures pieces { pieces separator text.now ≡ result.0.now ∷ pieces_after separator (option_copied result.1) }
+    ensures pieces { pieces separator text.now
+        ≡ result.0.now ∷ pieces_after separator (option_copied result.1) }
 {
     match text.split_once(separator) {
         Some((piece, rest)) => (piece, Some(rest)),

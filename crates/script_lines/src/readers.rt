@@ -16,20 +16,16 @@ pub fn read_begin(line: &str) -> Option<Command>
     requires { HasForm (words line.now) (codes "begin") 2 }
     ensures { IsRead (words line.now) result }
 {
-    match caller(word_at(line, 1)) {
-        None => None,
-        Some(who) => Some(Command::Begin { who }),
-    }
+    let who = caller(word_at(line, 1))?;
+    Some(Command::Begin { who })
 }
 
 pub fn read_fail(line: &str) -> Option<Command>
     requires { HasForm (words line.now) (codes "fail") 2 }
     ensures { IsRead (words line.now) result }
 {
-    match ticket_of(word_at(line, 1)) {
-        None => None,
-        Some((epoch, ticket)) => Some(Command::Fail { epoch, ticket }),
-    }
+    let (epoch, ticket) = ticket_of(word_at(line, 1))?;
+    Some(Command::Fail { epoch, ticket })
 }
 
 pub fn read_look(alloc: Global, line: &str) -> Result<Option<Command>, Memory>
@@ -138,7 +134,9 @@ pub fn read_void(alloc: Global, line: &str) -> Result<Option<Command>, Memory>
 /// The target that the words after the caller name.
 fn read_target(alloc: Global, line: &str) -> Result<Option<Target>, Memory>
     requires { word (words line.now) 0 ≡ codes "void" }
-    ensures { IfOk result (λ o. MatchOption o ((t : Target) → SaysTarget (words line.now) t → ⊥) (λ t. SaysTarget (words line.now) t)) }
+    ensures { IfOk result (λ o. MatchOption o
+        ((t : Target) → SaysTarget (words line.now) t → ⊥)
+        (λ t. SaysTarget (words line.now) t)) }
 {
     let kind = word_at(line, 2);
     let Some(sub) = text_of(alloc, word_at(line, 3))? else {

@@ -1,6 +1,6 @@
 ghost use Rattle.std.specs.Prelude.{◌≡◌, codes, ◌∷◌, [], IfOk};
 ghost use Rattle.std.specs.Fmt.{decimal};
-ghost use Rattle.script_lines.specs.Replies.{line_of, ticket_text, bypass_text, why_words, outcome_words, settled_text, voided_text, cause_word};
+ghost use Rattle.script_lines.specs.Replies.{line_of, hit_text, miss_text, bypass_text, why_words, outcome_words, settled_text, voided_text, tally_text, refused_text, reply_text};
 
 use cache_terms::{Mark, Outcome, Why};
 use flow_base::{Memory, Text};
@@ -14,24 +14,104 @@ pub enum Cause {
     Ticket,
 }
 
-/// The answer to `begin`.
-pub fn epoch_line(alloc: Global, epoch: u64) -> Result<Text, Memory>
+/// The answer to a line of a script.
+#[derive(Debug, Drop)]
+pub enum Reply {
+    /// To `begin`: the epoch of the caller's pass.
+    Epoch {
+        epoch: u64,
+    },
+    /// To a `look` that hit: the position of the lookup and that of the stored record, and its value.
+    Hit {
+        lookup: u64,
+        stored: u64,
+        value: Text,
+    },
+    /// To a `look` that missed: the position of the lookup, and the epoch and the mark of its permit.
+    Miss {
+        lookup: u64,
+        epoch: u64,
+        mark: Mark,
+    },
+    /// To a `look` that went past the cache: why, which is the mark of its permit.
+    Bypass {
+        mark: Mark,
+    },
+    /// To `settle`, `reply` and `fail`: the position of the settle where one was appended, and what became
+    /// of the permit.
+    Settled {
+        position: Option<u64>,
+        outcome: Outcome,
+    },
+    /// To `void`: the epoch that it began, if it did, the position of the invalidation, and how many held
+    /// records it covers.
+    Voided {
+        began: Option<u64>,
+        position: u64,
+        count: u64,
+    },
+    /// To `tally`: the epoch, the journal's length, the bytes that are kept and the open tickets.
+    Tally {
+        epoch: u64,
+        events: u64,
+        bytes: u64,
+        pending: u64,
+    },
+    /// To a line that is refused: its number, from 1, and why.
+    Refused {
+        number: u64,
+        cause: Cause,
+    },
+}
+
+/// The text of an answer, one line with its line feed.
+pub fn reply_line(alloc: Global, reply: &Reply) -> Result<Text, Memory>
+    ensures { IfOk result (λ t. t ≡ reply_text reply.now) }
+{
+    match reply {
+        Reply::Epoch { epoch } => epoch_line(alloc, *epoch),
+        Reply::Hit {
+            lookup,
+            stored,
+            value,
+        } => hit_line(alloc, *lookup, *stored, value),
+        Reply::Miss {
+            lookup,
+            epoch,
+            mark,
+        } => miss_line(alloc, *lookup, *epoch, *mark),
+        Reply::Bypass { mark } => bypass_line(alloc, *mark),
+        Reply::Settled { position, outcome } => settled_line(alloc, *position, *outcome),
+        Reply::Voided {
+            began,
+            position,
+            count,
+        } => voided_line(alloc, *began, *position, *count),
+        Reply::Tally {
+            epoch,
+            events,
+            bytes,
+            pending,
+        } => tally_line(alloc, *epoch, *events, *bytes, *pending),
+        Reply::Refused { number, cause } => refused_line(alloc, *number, *cause),
+    }
+}
+
+fn epoch_line(alloc: Global, epoch: u64) -> Result<Text, Memory>
     ensures { IfOk result (λ t. t ≡ line_of (codes "epoch" ∷ decimal epoch ∷ [])) }
 {
     Ok(Text::from_string(format!(in alloc; "epoch {epoch}\n")?))
 }
 
-/// The answer to a `look` that hit: the lookup's position, the stored record's, and its value.
-pub fn hit_line(alloc: Global, lookup: u64, stored: u64, value: &Text) -> Result<Text, Memory>
-    ensures { IfOk result (λ t. t ≡ line_of (decimal lookup ∷ codes "hit" ∷ decimal stored ∷ value.now ∷ [])) }
+fn hit_line(alloc: Global, lookup: u64, stored: u64, value: &Text) -> Result<Text, Memory>
+    ensures { IfOk result (λ t. t ≡ hit_text lookup stored value.now) }
 {
     let value = value.as_str();
     Ok(Text::from_string(format!(in alloc; "{lookup} hit {stored} {value}\n")?))
 }
 
-/// The answer to a `look` that missed: the lookup's position, and the ticket of its permit.
-pub fn miss_line(alloc: Global, lookup: u64, epoch: u64, mark: Mark) -> Result<Text, Memory>
-    ensures { IfOk result (λ t. t ≡ line_of (decimal lookup ∷ codes "miss" ∷ ticket_text epoch mark ∷ [])) }
+fn miss_line(alloc: Global, lookup: u64, epoch: u64, mark: Mark) -> Result<Text, Memory>
+    ensures { IfOk result (λ t. t ≡ miss_text lookup epoch mark) }
 {
     match mark {
         Mark::Ticket(ticket) => Ok(Text::from_string(format!(in alloc;
@@ -41,8 +121,7 @@ pub fn miss_line(alloc: Global, lookup: u64, epoch: u64, mark: Mark) -> Result<T
     }
 }
 
-/// The answer to a `look` that was bypassed: why, and the numbers.
-pub fn bypass_line(alloc: Global, mark: Mark) -> Result<Text, Memory>
+fn bypass_line(alloc: Global, mark: Mark) -> Result<Text, Memory>
     ensures { IfOk result (λ t. t ≡ bypass_text mark) }
 {
     match mark {
@@ -103,9 +182,7 @@ fn outcome_line(alloc: Global, outcome: Outcome) -> Result<Text, Memory>
     }
 }
 
-/// The answer to a line that settles a permit: the position of its Settle where one was appended, and
-/// what became of the permit.
-pub fn settled_line(alloc: Global, position: Option<u64>, outcome: Outcome) -> Result<Text, Memory>
+fn settled_line(alloc: Global, position: Option<u64>, outcome: Outcome) -> Result<Text, Memory>
     ensures { IfOk result (λ t. t ≡ settled_text position outcome) }
 {
     let line = outcome_line(alloc, outcome)?;
@@ -118,17 +195,10 @@ pub fn settled_line(alloc: Global, position: Option<u64>, outcome: Outcome) -> R
     }
 }
 
-/// The answer to `void`: the epoch that it turned to, if it did, the position of the invalidation, and
-/// how many held records it covers.
-pub fn voided_line(
-    alloc: Global,
-    turned: Option<u64>,
-    position: u64,
-    count: u64,
-) -> Result<Text, Memory>
-    ensures { IfOk result (λ t. t ≡ voided_text turned position count) }
+fn voided_line(alloc: Global, began: Option<u64>, position: u64, count: u64) -> Result<Text, Memory>
+    ensures { IfOk result (λ t. t ≡ voided_text began position count) }
 {
-    match turned {
+    match began {
         None => Ok(Text::from_string(format!(in alloc; "{position} voided {count}\n")?)),
         Some(epoch) => Ok(Text::from_string(format!(in alloc;
             "turned {epoch} {position} voided {count}\n"
@@ -136,24 +206,22 @@ pub fn voided_line(
     }
 }
 
-/// The answer to `tally`: the epoch, the journal's length, the bytes that are kept and the open tickets.
-pub fn tally_line(
+fn tally_line(
     alloc: Global,
     epoch: u64,
     events: u64,
     bytes: u64,
-    open_tickets: u64,
+    pending: u64,
 ) -> Result<Text, Memory>
-    ensures { IfOk result (λ t. t ≡ line_of (codes "epoch" ∷ decimal epoch ∷ codes "events" ∷ decimal events ∷ codes "bytes" ∷ decimal bytes ∷ codes "open" ∷ decimal open_tickets ∷ [])) }
+    ensures { IfOk result (λ t. t ≡ tally_text epoch events bytes pending) }
 {
     Ok(Text::from_string(format!(in alloc;
-        "epoch {epoch} events {events} bytes {bytes} open {open_tickets}\n"
+        "epoch {epoch} events {events} bytes {bytes} open {pending}\n"
     )?))
 }
 
-/// What is written for a line that is refused. Lines are counted from 1.
-pub fn refused_line(alloc: Global, number: u64, cause: Cause) -> Result<Text, Memory>
-    ensures { IfOk result (λ t. t ≡ line_of (codes "line" ∷ decimal number ∷ codes "refused" ∷ cause_word cause ∷ [])) }
+fn refused_line(alloc: Global, number: u64, cause: Cause) -> Result<Text, Memory>
+    ensures { IfOk result (λ t. t ≡ refused_text number cause) }
 {
     match cause {
         Cause::Word => Ok(Text::from_string(format!(in alloc; "line {number} refused word\n")?)),

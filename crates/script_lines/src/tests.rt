@@ -1,7 +1,4 @@
-use crate::{
-    Cause, Command, bypass_line, epoch_line, first_line, hit_line, is_quiet, miss_line,
-    one_reading, read_command, refused_line, settled_line, tally_line, voided_line,
-};
+use crate::{Cause, Command, Reply, first_line, is_quiet, one_reading, read_command, reply_line};
 use cache_terms::{Mark, Outcome, Tags, Target, Why};
 use flow_base::{Memory, Text};
 use std::alloc::Global;
@@ -184,9 +181,9 @@ fn lines_are_read(rt: HostRuntime) {
     one_reading();
 }
 
-/// Whether a reply was written, and is this.
-fn writes(reply: Result<Text, Memory>, wanted: &str) -> bool {
-    match reply {
+/// Whether the reply is written so.
+fn writes(alloc: Global, reply: &Reply, wanted: &str) -> bool {
+    match reply_line(alloc, reply) {
         Err(Memory) => false,
         Ok(text) => text.as_str() == wanted,
     }
@@ -196,16 +193,105 @@ fn writes(reply: Result<Text, Memory>, wanted: &str) -> bool {
 fn replies_are_written(rt: HostRuntime) -> Result<(), Memory> {
     let alloc = rt.alloc();
     let value = Text::of(alloc, "v")?;
+    let rows = [
+        (Reply::Epoch { epoch: 2 }, "epoch 2\n"),
+        (
+            Reply::Hit {
+                lookup: 3,
+                stored: 2,
+                value,
+            },
+            "3 hit 2 v\n",
+        ),
+        (
+            Reply::Miss {
+                lookup: 3,
+                epoch: 1,
+                mark: Mark::Ticket(4),
+            },
+            "3 miss 1.4\n",
+        ),
+        (
+            Reply::Voided {
+                began: None,
+                position: 4,
+                count: 1,
+            },
+            "4 voided 1\n",
+        ),
+        (
+            Reply::Voided {
+                began: Some(2),
+                position: 0,
+                count: 3,
+            },
+            "turned 2 0 voided 3\n",
+        ),
+        (
+            Reply::Tally {
+                epoch: 1,
+                events: 7,
+                bytes: 20,
+                pending: 2,
+            },
+            "epoch 1 events 7 bytes 20 open 2\n",
+        ),
+    ];
+    for (reply, wanted) in &rows {
+        assert!(rt; writes(alloc, reply, wanted), "{wanted}");
+    }
+    Ok(())
+}
+
+#[test]
+fn refusals_are_written(rt: HostRuntime) {
+    let alloc = rt.alloc();
+    let rows = [
+        (Cause::Word, "line 4 refused word\n"),
+        (Cause::Who, "line 4 refused who\n"),
+        (Cause::Ticket, "line 4 refused ticket\n"),
+    ];
+    for (cause, wanted) in rows {
+        let reply = Reply::Refused { number: 4, cause };
+        assert!(rt; writes(alloc, &reply, wanted), "{wanted}");
+    }
+}
+
+#[test]
+fn each_mark_is_written(rt: HostRuntime) {
+    let alloc = rt.alloc();
+    let over = Mark::Over {
+        pinned: 0,
+        current: 1,
+    };
     let full = Mark::Full {
         length: 5,
         reserved: 1,
         needed: 3,
         limit: 8,
     };
-    let stale = Outcome::Unstorable(Why::Stale {
+    let wide = Mark::Wide {
+        bytes: 16385,
+        limit: 16384,
+    };
+    let rows = [
+        (over, "bypass over 0 1\n"),
+        (full, "bypass full 5 1 3 8\n"),
+        (wide, "bypass wide 16385 16384\n"),
+        (Mark::Retired, "bypass retired\n"),
+    ];
+    for (mark, wanted) in rows {
+        assert!(rt; writes(alloc, &Reply::Bypass { mark }, wanted), "{wanted}");
+    }
+}
+
+#[test]
+fn each_outcome_is_written(rt: HostRuntime) {
+    let alloc = rt.alloc();
+    let stale = Why::Stale {
         lifetime: 60,
         age: 61,
-    });
+    };
     let room = Outcome::NoRoom {
         bytes: 10,
         adds: 11,
@@ -215,33 +301,67 @@ fn replies_are_written(rt: HostRuntime) -> Result<(), Memory> {
         pinned: 0,
         current: 1,
     };
-    let stored = Outcome::Stored;
-    assert!(rt; writes(epoch_line(alloc, 2), "epoch 2\n"));
-    assert!(rt; writes(hit_line(alloc, 3, 2, &value), "3 hit 2 v\n"));
-    assert!(rt; writes(miss_line(alloc, 3, 1, Mark::Ticket(4)), "3 miss 1.4\n"));
-    assert!(rt; writes(bypass_line(alloc, full), "bypass full 5 1 3 8\n"));
-    assert!(rt; writes(settled_line(alloc, Some(2), stored), "2 stored\n"));
-    assert!(rt;
-        writes(
-            settled_line(alloc, Some(2), stale),
-            "2 unstorable stale 60 61\n"
-        )
-    );
-    assert!(rt; writes(settled_line(alloc, Some(5), room), "5 noroom 10 11 16\n"));
-    assert!(rt; writes(settled_line(alloc, None, over), "over 0 1\n"));
-    assert!(rt; writes(voided_line(alloc, None, 4, 1), "4 voided 1\n"));
-    assert!(rt; writes(voided_line(alloc, Some(2), 0, 0), "turned 2 0 voided 0\n"));
-    assert!(rt;
-        writes(
-            tally_line(alloc, 1, 7, 20, 2),
-            "epoch 1 events 7 bytes 20 open 2\n"
-        )
-    );
-    assert!(rt;
-        writes(
-            refused_line(alloc, 4, Cause::Ticket),
-            "line 4 refused ticket\n"
-        )
-    );
-    Ok(())
+    let rows = [
+        (Some(2), Outcome::Stored, "2 stored\n"),
+        (Some(3), Outcome::Void(2), "3 void 2\n"),
+        (Some(5), room, "5 noroom 10 11 16\n"),
+        (Some(2), Outcome::Failed, "2 failed\n"),
+        (None, over, "over 0 1\n"),
+        (None, Outcome::Bypassed, "bypassed\n"),
+        (Some(2), Outcome::Memory, "2 memory\n"),
+        (
+            Some(2),
+            Outcome::Unstorable(Why::Status(503)),
+            "2 unstorable status 503\n",
+        ),
+        (
+            Some(2),
+            Outcome::Unstorable(Why::Mutation),
+            "2 unstorable mutation\n",
+        ),
+        (
+            Some(2),
+            Outcome::Unstorable(Why::Uncached),
+            "2 unstorable uncached\n",
+        ),
+        (
+            Some(2),
+            Outcome::Unstorable(Why::Errors),
+            "2 unstorable errors\n",
+        ),
+        (
+            Some(2),
+            Outcome::Unstorable(Why::Absent),
+            "2 unstorable absent\n",
+        ),
+        (
+            Some(2),
+            Outcome::Unstorable(Why::NoStore),
+            "2 unstorable nostore\n",
+        ),
+        (
+            Some(2),
+            Outcome::Unstorable(stale),
+            "2 unstorable stale 60 61\n",
+        ),
+        (
+            Some(2),
+            Outcome::Unstorable(Why::Anonymous),
+            "2 unstorable anonymous\n",
+        ),
+        (
+            Some(2),
+            Outcome::Unstorable(Why::TagCount(17)),
+            "2 unstorable tagcount 17\n",
+        ),
+        (
+            Some(2),
+            Outcome::Unstorable(Why::TagForm),
+            "2 unstorable tagform\n",
+        ),
+    ];
+    for (position, outcome, wanted) in rows {
+        let reply = Reply::Settled { position, outcome };
+        assert!(rt; writes(alloc, &reply, wanted), "{wanted}");
+    }
 }

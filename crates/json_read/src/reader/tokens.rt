@@ -20,9 +20,9 @@ use crate::string::{Part, plain_length};
 use flow_base::Text;
 use json_members::Members;
 use json_value::{Json, JsonFault};
-use sqlite_items::Items;
 use std::alloc::{AllocError, Global};
 use std::mem;
+use tree_items::Items;
 
 /// How many bytes of white space the bytes begin with.
 fn blank_length(bytes: &[u8]) -> usize

@@ -1,7 +1,7 @@
 use Rattle.std.proofs.Common.{sym, subst}
 use Rattle.std.specs.Option.{option_copied}
 use Rattle.cache_model.specs.State.{State}
-use Rattle.rehearsal.specs.Held.{IsReady}
+use Rattle.rehearsal.specs.InHand.{IsReady}
 use Rattle.rehearsal.proofs.Holding.{looks_ready}
 use Rattle.rehearsal.proofs.acts.ask.Goals as goal
 

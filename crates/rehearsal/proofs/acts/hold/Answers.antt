@@ -3,7 +3,7 @@ use Rattle.cache_terms.specs.declared.events.Mark.{Mark}
 use Rattle.cache_terms.specs.declared.events.Mark.TheVariants as mark
 use Rattle.cache_model.specs.State.{State}
 use Rattle.rehearsal.specs.Scene.{Permits}
-use Rattle.rehearsal.specs.Held.{IsReady, IsNew}
+use Rattle.rehearsal.specs.InHand.{IsReady, IsNew}
 use Rattle.rehearsal.proofs.Holding.{insert_ready, spend_ready, settle_past, with_none}
 use Rattle.rehearsal.proofs.acts.hold.Goals as goal
 

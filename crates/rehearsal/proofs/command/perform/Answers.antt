@@ -5,5 +5,5 @@ use Rattle.rehearsal.specs.Scene.{opening}
 use Rattle.rehearsal.proofs.Playing.{front_of}
 use Rattle.rehearsal.proofs.command.perform.Goals as goal
 
-pub returns-in-Err-clause-writes : goal.returns-in-Err-clause-writes
-returns-in-Err-clause-writes g c = ([], front_of 1 (opening c.args.limits) (lines c.args.script.now), Appends-nil _)
+pub returns-in-Err-clause-ends : goal.returns-in-Err-clause-ends
+returns-in-Err-clause-ends g c = ([], front_of 1 (opening c.args.limits) (lines c.args.script.now), Appends-nil _)

@@ -1,11 +1,20 @@
-use Rattle.std.proofs.Common.{◌≡◌, ◌≤◌, ◌∙◌, ap, arith}
+use Rattle.std.proofs.Common.{◌≡◌, ◌≤◌, ◌∙◌, ap, sym, subst, arith}
+use Rattle.std.specs.Option.{option_copied}
 use Rattle.cache_terms.specs.declared.offers.Offer.{Offer}
 use Rattle.cache_terms.specs.declared.offers.Verdict.{Verdict}
+use Rattle.cache_control.specs.Rules.{IsVerdict}
 use Rattle.rehearsal.specs.Acts.{offered}
 use Rattle.rehearsal.proofs.offers.replied.Goals as goal
 
+pub returns-clause-verdict : goal.returns-clause-verdict
+returns-clause-verdict c =
+    subst (λ (v : Verdict). IsVerdict (option_copied c.args.cache_control) (option_copied c.args.age) v)
+    (sym (ap (λ (o : Offer). o.verdict) c.offered.ensures)) c.verdict.ensures.verdict
+
 pub returns-clause-offer : goal.returns-clause-offer
-returns-clause-offer c = c.offered.ensures ∙ ap (λ (v : Verdict). offered c.args.status v c.args.tags c.args.value) c.verdict.ensures.value
+returns-clause-offer c =
+    let same : c.offered.result.verdict ≡ c.verdict.result = ap (λ (o : Offer). o.verdict) c.offered.ensures in
+    c.offered.ensures ∙ sym (ap (λ (v : Verdict). offered c.args.status v c.args.tags c.args.value) same)
 
 pub returns-clause-lifetime : goal.returns-clause-lifetime
 returns-clause-lifetime c =

@@ -4,5 +4,7 @@ use Rattle.script_lines.specs.Commands.{IsTicket}
 use Rattle.script_lines.proofs.Forms.{no_fail}
 use Rattle.script_lines.proofs.readers.read_fail.Goals as goal
 
-pub returns-in-None : goal.returns-in-None
-returns-in-None c = no_fail (words c.args.line.now) c.requires.verb_is (λ e t h. (rw c.in-None.is at c.ticket_of.ensures) e t (subst (λ (l : List ℕ). IsTicket l e t) (sym c.word_at.ensures) h.ticket_is))
+pub returns-in_err-epoch : goal.returns-in_err-epoch
+returns-in_err-epoch c =
+    rw c.from_residual.ensures (no_fail (words c.args.line.now) c.requires.verb_is
+    (λ e t h. c.in_err-epoch.ensures e t (subst (λ (l : List ℕ). IsTicket l e t) (sym c.word_at.ensures) h.ticket_is)))

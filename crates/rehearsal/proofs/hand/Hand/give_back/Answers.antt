@@ -1,7 +1,7 @@
 use Rattle.std.proofs.Common.{◌∙◌, sym, subst}
 use Rattle.std.specs.FinMap as map
 use Rattle.rehearsal.specs.Scene.{Permits}
-use Rattle.rehearsal.specs.Held.{IsReady}
+use Rattle.rehearsal.specs.InHand.{IsReady}
 use Rattle.rehearsal.proofs.Maps.{get_is, remove_is, name_total, name_same}
 use Rattle.rehearsal.proofs.Holding.{settle_ready}
 use Rattle.rehearsal.proofs.hand.Hand.give_back.Goals as goal

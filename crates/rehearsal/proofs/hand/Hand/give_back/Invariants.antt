@@ -1,6 +1,6 @@
 use Rattle.std.specs.FinMap as map
 use Rattle.std.specs.BTreeMap.{btree_map_len}
-use Rattle.rehearsal.specs.Held.{IsReady}
+use Rattle.rehearsal.specs.InHand.{IsReady}
 use Rattle.rehearsal.proofs.hand.Hand.give_back.Given as goal
 
 abbrev pub invariant-loop-permit : goal.invariant-loop-permit

@@ -3,13 +3,13 @@ use Rattle.rehearsal.proofs.stage.Stage.look.Goals as goal
 
 pub returns : goal.returns
 returns c =
-    let asks = c.in_ok-ask-in-Some.ensures.asks in
+    let looks = c.in_ok-ask-in-Some.ensures.looks in
     rw (← c.self.view_is) (record {
       pass = c.in-Some.pass;
       pass_is = sym c.last.ensures ∙ c.in-Some.is;
-      answer = asks.answer;
-      step = rw c.as_ref.ensures.value at asks.step;
+      answer = looks.answer;
+      step = rw c.as_ref.ensures.value at looks.step;
       passes = refl;
-      hand = asks.taken;
-      says = asks.says;
+      hand = looks.taken;
+      says = looks.says;
     })

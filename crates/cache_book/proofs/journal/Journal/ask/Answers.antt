@@ -1,0 +1,23 @@
+use Rattle.std.proofs.Common.{arith}
+use Rattle.std.specs.Option.{option_copied}
+use Rattle.cache_model.proofs.Sound.{sound_of}
+use Rattle.cache_book.proofs.Asking.{answered_legal}
+use Rattle.cache_book.proofs.journal.Journal.ask.Goals as goal
+
+pub chosen-requires : goal.chosen-requires
+chosen-requires c = rw c.deref.ensures.value (sound_of c.self.inside.limits c.self.inside.events.items c.self.invariant.0.each)
+
+pub hit-requires-clause-sound : goal.hit-requires-clause-sound
+hit-requires-clause-sound c = sound_of c.self.inside.limits c.self.inside.events.items c.self.invariant.0.each
+
+pub invariant_of-self : goal.invariant_of-self
+invariant_of-self c =
+    let room = rw (← c.self.view_is) at c.requires.room in
+    let legal = answered_legal c.self.inside.limits c.args.pass (option_copied c.args.id) c.args.now c.args.key c.self.inside.events.items c.hit.new.events.items c.hit.result c.self.invariant.0 room c.hit.ensures.ok c.hit.ensures.err in
+    (legal, c.self.invariant.1, omega (arith, c.self.invariant.2, c.hit.ensures.capacity))
+
+pub invariant_of-self-in-None : goal.invariant_of-self-in-None
+invariant_of-self-in-None c =
+    let room = rw (← c.self.view_is) at c.requires.room in
+    let legal = answered_legal c.self.inside.limits c.args.pass (option_copied c.args.id) c.args.now c.args.key c.self.inside.events.items c.miss.new.events.items c.miss.result c.self.invariant.0 room c.miss.ensures.ok c.miss.ensures.err in
+    (legal, c.self.invariant.1, omega (arith, c.self.invariant.2, c.miss.ensures.capacity))
