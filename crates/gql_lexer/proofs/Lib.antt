@@ -1,0 +1,3 @@
+pub mod NameWords
+pub mod Bounds
+pub mod Turns

@@ -1,0 +1,11 @@
+pub mod Members
+pub mod Walks
+pub mod Marks
+pub mod Stack
+pub mod Leaving
+pub mod Kept
+pub mod Turning
+pub mod Lists
+pub mod Naming
+pub mod Paths
+pub mod Finds

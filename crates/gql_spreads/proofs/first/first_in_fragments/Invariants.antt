@@ -1,0 +1,9 @@
+use Rattle.std.proofs.Common.{◌≡◌, drop}
+use Rattle.std.specs.List.{find, flat_map}
+use Rattle.gql_spreads.specs.Spreads.{fragment_spreads}
+use Rattle.gql_spreads.specs.Numbers.{is_bad}
+use Rattle.gql_spreads.proofs.first.first_in_fragments.Given as goal
+
+abbrev pub invariant-loop-i : goal.invariant-loop-i
+invariant-loop-i l =
+    find (is_bad l.numbers l.cyclic) (flat_map fragment_spreads (drop l.i l.fragments)) ≡ find (is_bad l.numbers l.cyclic) (flat_map fragment_spreads l.fragments)

@@ -1,0 +1,10 @@
+pub mod NumberTexts
+pub mod Moves
+pub mod Scans
+pub mod Lexemes
+pub mod Leading
+pub mod Words
+pub mod Ends
+pub mod Fronts
+pub mod Samples
+pub mod ScanLoop
