@@ -1,0 +1,9 @@
+pub mod Strings
+pub mod Depth
+pub mod Running
+pub mod Rules
+pub mod Members
+pub mod Noted
+pub mod Defining
+pub mod Determined
+pub mod OneFault

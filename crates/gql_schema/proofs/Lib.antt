@@ -1,0 +1,13 @@
+pub mod Chained
+pub mod Over
+pub mod Loops
+pub mod Marking
+pub mod FieldsExact
+pub mod SchemasExact
+pub mod GrowthWords
+pub mod NameGrowths
+pub mod MarkGrowths
+pub mod Explained
+pub mod Trying
+pub mod Naming
+pub mod OneAnswer

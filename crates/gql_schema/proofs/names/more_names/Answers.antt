@@ -1,0 +1,22 @@
+use Rattle.std.proofs.Common.{sym, ◌∙◌}
+use Rattle.std.proofs.lemmas.Result.{err_from_is_err_and}
+use Rattle.gql_schema.specs.Grammar.{is}
+use Rattle.gql_schema.specs.Reading.{next_name}
+use Rattle.gql_schema.specs.Reads.{passes}
+use Rattle.gql_schema.proofs.Loops.{exits, item_read, items_end, no_turns_left}
+use Rattle.gql_schema.proofs.names.more_names.Goals as goal
+
+pub returns-in_err-next_name : goal.returns-in_err-next_name
+returns-in_err-next_name c =
+    let p = err_from_is_err_and c.from_residual.result c.from_residual.ensures.1 in
+    rw (p.1, p.2) (exits (is c.args.kind) (next_name c.args.kind (passes c.args.test)) _ _ _ _ _ _ _ c.loop-test.true (sym c.sees.ensures ∙ c.if-not-sees.false) c.in_err-next_name.ensures c.loop.invariant)
+
+pub loop-preserved : goal.loop-preserved
+loop-preserved c = rw c.in_ok-push.ensures.ok
+    (item_read (is c.args.kind) (next_name c.args.kind (passes c.args.test)) _ _ _ _ _ _ _ c.loop-test.true (sym c.sees.ensures ∙ c.if-not-sees.false) c.in_ok-next_name.ensures c.loop.invariant)
+
+pub returns-then-not-sees : goal.returns-then-not-sees
+returns-then-not-sees c = items_end (is c.args.kind) (next_name c.args.kind (passes c.args.test)) c.loop.found c.len-end.result c.loop.counter c.loop.left _ (sym c.sees.ensures ∙ c.if-not-sees.true) c.loop.invariant
+
+pub returns : goal.returns
+returns c = no_turns_left (is c.args.kind) (next_name c.args.kind (passes c.args.test)) c.loop.found c.len-end.result c.loop.counter c.loop.left _ c.loop-test.false c.loop.invariant

@@ -1,0 +1,10 @@
+pub mod Words
+pub mod Chains
+pub mod Grammar
+pub mod Reading
+pub mod Reads
+pub mod Growths
+pub mod Faults
+pub mod Judging
+pub mod Rules
+pub mod Schemas

@@ -1,0 +1,10 @@
+pub mod Spreads
+pub mod Grouping
+pub mod Going
+pub mod Standings
+pub mod Rules
+pub mod Running
+pub mod Members
+pub mod Determined
+pub mod Keys
+pub mod Whole

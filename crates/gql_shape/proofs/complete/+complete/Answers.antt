@@ -1,0 +1,158 @@
+use Rattle.std.proofs.Common.{◌≡◌, ℕ, ◌<◌, ◌≤◌, List, [], ◌∷◌, ◌++◌, get_or, Some, None, Vec, Global, Result, Ok, Err, IfOk, sym, ap, ◌∙◌, refl, length, arith}
+use Rattle.std.specs.Option.{option_copied}
+use Rattle.json_value.specs.declared.tree.Json.TheVariants as j
+use Rattle.json_value.specs.Members.{named}
+use Rattle.json_paths.specs.declared.path.Spot.{Spot}
+use Rattle.json_paths.specs.declared.path.Spot.TheVariants as spot
+use Rattle.gql_shape.proofs.Members.{named-at, named-none}
+use Rattle.gql_leaves.specs.Bares.{bare}
+use Rattle.gql_shape.specs.Completing as spec
+use Rattle.gql_shape.specs.Completing.{Completes, Settles, selections_of, list_type, composite_type, by_element, by_field}
+use Rattle.gql_shape.proofs.Rules as rules
+use Rattle.gql_shape.proofs.Running as run
+use Rattle.gql_shape.proofs.complete.+complete.Goals as goal
+use Rattle.gql_shape.proofs.complete.+complete.Goals.{complete_fields-in-TypeName+in_ok-copy-in-TypeName+in_ok-copy-in-TypeName-2+in_ok-push-in-TypeName, complete_fields-in-Unknown, complete_fields-in-Typed+in_ok-value-in-Typed+in_ok-append-in-Typed+in-Some+in_ok-copy-in-Some+in_ok-push-in-Some}
+
+IfOk-map : {A E : Type 0} {P Q : A → Type 0} (r : Result A E) → IfOk r P → ((x : A) → P x → Q x) → IfOk r Q
+IfOk-map (Ok v) h f = f v h
+IfOk-map (Err e) h f = tt
+
+pub complete-returns-in-Some-clause-completed : goal.complete-returns-in-Some-clause-completed
+complete-returns-in-Some-clause-completed t c =
+    let found : list_type (bare c.args.of.now) ≡ Some c.in-Some.inner.now = sym c.list_type.ensures ∙ ap option_copied c.in-Some.is in
+    let rule = rules.rule-list c.args.scope.now.schema c.args.of.now c.args.value.now c.as_slice-in-Some.result.now c.in-Some.inner.now (cc) found in
+    IfOk-map c.complete_list.result c.complete_list.ensures.settled (λ d h. rules.settled c.args.scope.now c.args.of.now (selections_of c.args.group.now) c.args.value.now c.args.spots.now.items _ d.value d.errors rule h)
+
+pub complete-returns-in-None-clause-completed : goal.complete-returns-in-None-clause-completed
+complete-returns-in-None-clause-completed t c =
+    let found : list_type (bare c.args.of.now) ≡ None = sym c.list_type.ensures ∙ ap option_copied c.in-None.is in
+    let rule = rules.rule-no_list c.args.scope.now.schema c.args.of.now c.args.value.now c.in-List.items c.in-List.is found in
+    IfOk-map c.complete_plain.result c.complete_plain.ensures (λ d h. rules.settled_plain c.args.scope.now c.args.of.now (selections_of c.args.group.now) c.args.value.now c.args.spots.now.items c.as_slice-in-None.result.now d.value d.errors rule h c.as_slice-in-None.ensures.value)
+
+pub complete-returns-in-Some-composite_type-clause-completed : goal.complete-returns-in-Some-composite_type-clause-completed
+complete-returns-in-Some-composite_type-clause-completed t c =
+    let found : composite_type c.args.scope.now.schema (bare c.args.of.now) ≡ Some c.in-Some-composite_type.name.now = sym c.composite_type.ensures ∙ ap option_copied c.in-Some-composite_type.is in
+    let rule = rules.rule-object c.args.scope.now.schema c.args.of.now c.args.value.now c.as_slice-in-Some-composite_type.result.now c.in-Some-composite_type.name.now (cc) found in
+    IfOk-map c.complete_object.result c.complete_object.ensures.settled (λ d h. rules.settled c.args.scope.now c.args.of.now (selections_of c.args.group.now) c.args.value.now c.args.spots.now.items _ d.value d.errors rule h)
+
+pub complete-returns-in-None-composite_type-clause-completed : goal.complete-returns-in-None-composite_type-clause-completed
+complete-returns-in-None-composite_type-clause-completed t c =
+    let found : composite_type c.args.scope.now.schema (bare c.args.of.now) ≡ None = sym c.composite_type.ensures ∙ ap option_copied c.in-None-composite_type.is in
+    let rule = rules.rule-no_object c.args.scope.now.schema c.args.of.now c.args.value.now c.in-Object.members c.in-Object.is found in
+    IfOk-map c.complete_plain-in-None-composite_type.result c.complete_plain-in-None-composite_type.ensures (λ d h. rules.settled_plain c.args.scope.now c.args.of.now (selections_of c.args.group.now) c.args.value.now c.args.spots.now.items c.as_slice-in-None-composite_type.result.now d.value d.errors rule h c.as_slice-in-None-composite_type.ensures.value)
+
+pub complete-returns-in-Bool-clause-completed : goal.complete-returns-in-Bool-clause-completed
+complete-returns-in-Bool-clause-completed t c =
+    let rule = rules.rule-Bool c.args.scope.now.schema c.args.of.now c.args.value.now c.in-Bool.field-0 c.in-Bool.is in
+    IfOk-map c.complete_plain-in-Bool.result c.complete_plain-in-Bool.ensures (λ d h. rules.settled_plain c.args.scope.now c.args.of.now (selections_of c.args.group.now) c.args.value.now c.args.spots.now.items c.as_slice-in-Bool.result.now d.value d.errors rule h c.as_slice-in-Bool.ensures.value)
+
+pub complete-returns-in-Number-clause-completed : goal.complete-returns-in-Number-clause-completed
+complete-returns-in-Number-clause-completed t c =
+    let rule = rules.rule-Number c.args.scope.now.schema c.args.of.now c.args.value.now c.in-Number.field-0 c.in-Number.is in
+    IfOk-map c.complete_plain-in-Number.result c.complete_plain-in-Number.ensures (λ d h. rules.settled_plain c.args.scope.now c.args.of.now (selections_of c.args.group.now) c.args.value.now c.args.spots.now.items c.as_slice-in-Number.result.now d.value d.errors rule h c.as_slice-in-Number.ensures.value)
+
+pub complete-returns-in-Str-clause-completed : goal.complete-returns-in-Str-clause-completed
+complete-returns-in-Str-clause-completed t c =
+    let rule = rules.rule-Str c.args.scope.now.schema c.args.of.now c.args.value.now c.in-Str.field-0 c.in-Str.is in
+    IfOk-map c.complete_plain-in-Str.result c.complete_plain-in-Str.ensures (λ d h. rules.settled_plain c.args.scope.now c.args.of.now (selections_of c.args.group.now) c.args.value.now c.args.spots.now.items c.as_slice-in-Str.result.now d.value d.errors rule h c.as_slice-in-Str.ensures.value)
+
+-- ---- elements
+
+pub complete_items-returns-in-None-clause-elements : goal.complete_items-returns-in-None-clause-elements
+complete_items-returns-in-None-clause-elements t c =
+    let done : Completes c.args.scope.now c.args.inner.now (selections_of c.args.group.now) c.index-items-i.result (c.args.spots.now.items ++ (spot.Index c.loop-i.i ∷ [])) None c.in_ok-value.field-0.errors =
+    rw (c.loop-i.invariant.back, c.in-None.is) at c.in_ok-value.ensures.completed in
+    rw c.in_ok-append.ensures.ok (run.items_climb c.args.scope.now c.args.inner.now (selections_of c.args.group.now) c.args.spots.now.items c.args.items.now c.loop-i.i c.loop-i.values c.loop-i.errors c.loop-i.invariant.run
+    c.index-items-i.result c.in_ok-value.field-0.errors c.loop-i-test.true c.index-items-i.is done)
+
+pub complete_items-loop-i-preserved : goal.complete_items-loop-i-preserved
+complete_items-loop-i-preserved t c =
+    let done : Completes c.args.scope.now c.args.inner.now (selections_of c.args.group.now) c.index-items-i.result (c.args.spots.now.items ++ (spot.Index c.loop-i.i ∷ [])) (Some c.in-Some.value) c.in_ok-value.field-0.errors =
+    rw (c.loop-i.invariant.back, c.in-Some.is) at c.in_ok-value.ensures.completed in
+    record {
+      run = rw (c.in_ok-push-in-Some.ensures.ok, c.in_ok-append.ensures.ok) (run.items_next c.args.scope.now c.args.inner.now (selections_of c.args.group.now) c.args.spots.now.items c.args.items.now c.loop-i.i c.loop-i.values c.loop-i.errors c.loop-i.invariant.run
+          c.index-items-i.result c.in-Some.value c.in_ok-value.field-0.errors c.loop-i-test.true c.index-items-i.is done);
+      back = c.in_ok-value.ensures.back ∙ c.loop-i.invariant.back;
+    }
+
+pub complete_items-returns-clause-elements : goal.complete_items-returns-clause-elements
+complete_items-returns-clause-elements t c = run.items_end c.args.scope.now c.args.inner.now (selections_of c.args.group.now) c.args.spots.now.items c.args.items.now c.loop-i.i c.loop-i.values c.loop-i.errors c.loop-i.invariant.run c.loop-i-test.false
+
+pub complete_list-returns-clause-settled : goal.complete_list-returns-clause-settled
+complete_list-returns-clause-settled t c = record {
+  value = c.list_or_null.result;
+  follows = rw c.list_or_null.ensures (by_element c.in_ok-values.ensures.elements);
+  left = c.kept-value.ensures;
+}
+
+-- ---- fields
+
+pub complete_fields-returns-in-None-clause-fields : goal.complete_fields-returns-in-None-clause-fields
+complete_fields-returns-in-None-clause-fields t c =
+    let found : spec.field_rule c.args.scope.now.schema c.args.object.now c.index-groups-i.result.first.name ≡ spec.typed c.in-Typed.of.now = rw c.name.ensures at (sym c.field_rule.ensures ∙ ap spec.shown_rule c.in-Typed.is) in
+    let done : Completes c.args.scope.now c.in-Typed.of.now (selections_of c.index-groups-i.result) (spec.or_null (named c.index-groups-i.result.first.key c.args.members.now))
+    (c.args.spots.now.items ++ (spot.Name c.index-groups-i.result.first.key ∷ [])) None c.in_ok-value-in-Typed.field-0.errors = rw (c.loop-i.invariant.back, c.in-None.is) at c.in_ok-value-in-Typed.ensures.completed in
+    rw c.in_ok-append-in-Typed.ensures.ok (run.fields_climb c.args.scope.now c.args.object.now c.args.members.now c.args.spots.now.items c.args.groups.now c.loop-i.i c.loop-i.made c.loop-i.errors c.loop-i.invariant.run
+    c.index-groups-i.result c.loop-i-test.true c.index-groups-i.is c.in-Typed.of.now c.in_ok-value-in-Typed.field-0.errors found done)
+
+pub complete_fields-loop-i-preserved : goal.complete_fields-loop-i-preserved
+complete_fields-loop-i-preserved t c =
+    elim c.match-field_rule.branch [
+      | complete_fields-in-TypeName+in_ok-copy-in-TypeName+in_ok-copy-in-TypeName-2+in_ok-push-in-TypeName w ↦ (
+          let found : spec.field_rule c.args.scope.now.schema c.args.object.now c.index-groups-i.result.first.name ≡ spec.type_name = rw c.name.ensures at (sym c.field_rule.ensures ∙ ap spec.shown_rule w.in-TypeName.is) in
+          let made : c.match-field_rule.made ≡ c.loop-i.made ++ ((c.index-groups-i.result.first.key, j.Str c.args.object.now) ∷ []) =
+          rw (w.made-is, w.in_ok-push-in-TypeName.ensures.ok, w.in_ok-copy-in-TypeName.ensures, w.key.ensures, w.in_ok-copy-in-TypeName-2.ensures) refl in
+          record {
+            run = rw (made, w.errors-is) (run.fields_type c.args.scope.now c.args.object.now c.args.members.now c.args.spots.now.items c.args.groups.now c.loop-i.i c.loop-i.made c.loop-i.errors c.loop-i.invariant.run
+                c.index-groups-i.result c.loop-i-test.true c.index-groups-i.is found);
+            back = ap (λ (v : Vec Spot Global). v.items) w.spots-is ∙ c.loop-i.invariant.back;
+          })
+      | complete_fields-in-Unknown w ↦ (
+          let found : spec.field_rule c.args.scope.now.schema c.args.object.now c.index-groups-i.result.first.name ≡ spec.unknown = rw c.name.ensures at (sym c.field_rule.ensures ∙ ap spec.shown_rule w.in-Unknown.is) in
+          record {
+            run = rw (w.made-is, w.errors-is) (run.fields_left_out c.args.scope.now c.args.object.now c.args.members.now c.args.spots.now.items c.args.groups.now c.loop-i.i c.loop-i.made c.loop-i.errors c.loop-i.invariant.run
+                c.index-groups-i.result c.loop-i-test.true c.index-groups-i.is found);
+            back = ap (λ (v : Vec Spot Global). v.items) w.spots-is ∙ c.loop-i.invariant.back;
+          })
+      | complete_fields-in-Typed+in_ok-value-in-Typed+in_ok-append-in-Typed+in-Some+in_ok-copy-in-Some+in_ok-push-in-Some w ↦ (
+          let found : spec.field_rule c.args.scope.now.schema c.args.object.now c.index-groups-i.result.first.name ≡ spec.typed w.in-Typed.of.now = rw c.name.ensures at (sym c.field_rule.ensures ∙ ap spec.shown_rule w.in-Typed.is) in
+          let done : Completes c.args.scope.now w.in-Typed.of.now (selections_of c.index-groups-i.result) (spec.or_null (named c.index-groups-i.result.first.key c.args.members.now))
+          (c.args.spots.now.items ++ (spot.Name c.index-groups-i.result.first.key ∷ [])) (Some w.in-Some.value) w.in_ok-value-in-Typed.field-0.errors = rw (c.loop-i.invariant.back, w.in-Some.is) at w.in_ok-value-in-Typed.ensures.completed in
+          let made : c.match-field_rule.made ≡ c.loop-i.made ++ ((c.index-groups-i.result.first.key, w.in-Some.value) ∷ []) =
+          rw (w.made-is, w.in_ok-push-in-Some.ensures.ok, w.in_ok-copy-in-Some.ensures, w.key-in-Some.ensures) refl in
+          record {
+            run = rw (made, w.errors-is, w.in_ok-append-in-Typed.ensures.ok) (run.fields_stays c.args.scope.now c.args.object.now c.args.members.now c.args.spots.now.items c.args.groups.now c.loop-i.i c.loop-i.made c.loop-i.errors c.loop-i.invariant.run
+                c.index-groups-i.result c.loop-i-test.true c.index-groups-i.is w.in-Typed.of.now w.in-Some.value w.in_ok-value-in-Typed.field-0.errors found done);
+            back = ap (λ (v : Vec Spot Global). v.items) w.spots-is ∙ (w.in_ok-value-in-Typed.ensures.back ∙ c.loop-i.invariant.back);
+          })
+    ]
+
+pub complete_fields-returns-clause-fields : goal.complete_fields-returns-clause-fields
+complete_fields-returns-clause-fields t c = run.fields_end c.args.scope.now c.args.object.now c.args.members.now c.args.spots.now.items c.args.groups.now c.loop-i.i c.loop-i.made c.loop-i.errors c.loop-i.invariant.run c.loop-i-test.false
+
+pub complete_members-returns-clause-settled : goal.complete_members-returns-clause-settled
+complete_members-returns-clause-settled t c = record {
+  value = c.object_or_null.result;
+  follows = rw c.object_or_null.ensures (by_field c.in_ok-selected.ensures (rw c.groups.ensures at c.in_ok-made.ensures.fields));
+  left = c.kept-value.ensures;
+}
+
+-- ---- one member
+
+pub complete_member-returns-then-at-members-clause-completed : goal.complete_member-returns-then-at-members-clause-completed
+complete_member-returns-then-at-members-clause-completed t c =
+    let key : List ℕ = c.args.group.now.first.key in
+    let place : c.place_of-at.result ≡ spec.place_of key c.args.members.now = cc in
+    let within : spec.place_of key c.args.members.now < length c.args.members.now = omega arith in
+    let found = named-at key c.args.members.now c.index-members-at.result within in
+    let value : spec.or_null (named key c.args.members.now) ≡ (get_or c.args.members.now c.place_of-at.result c.index-members-at.result).1 =
+    ap spec.or_null found ∙ ap (λ (i : ℕ). (get_or c.args.members.now i c.index-members-at.result).1) (sym place) in
+    IfOk-map c.complete.result c.complete.ensures.completed (λ d h. rw value h)
+
+pub complete_member-returns-clause-completed : goal.complete_member-returns-clause-completed
+complete_member-returns-clause-completed t c =
+    let key : List ℕ = c.args.group.now.first.key in
+    let place : c.place_of-at.result ≡ spec.place_of key c.args.members.now = cc in
+    let past : length c.args.members.now ≤ spec.place_of key c.args.members.now = omega arith in
+    let value : spec.or_null (named key c.args.members.now) ≡ j.Null = ap spec.or_null (named-none key c.args.members.now past) in
+    IfOk-map c.complete_null.result c.complete_null.ensures (λ d h. rw (value, ← c.as_slice.ensures.value) (h c.args.scope.now (selections_of c.args.group.now)))

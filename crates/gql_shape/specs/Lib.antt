@@ -1,0 +1,6 @@
+pub mod Terms
+pub mod Collecting
+pub mod Completing
+pub mod Keys
+pub mod Shaping
+pub mod Whole
