@@ -1,0 +1,5 @@
+pub mod Equations
+pub mod Lists
+pub mod Progress
+pub mod Names
+pub mod Taken

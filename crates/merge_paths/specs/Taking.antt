@@ -1,0 +1,25 @@
+-- Members that are taken out one by one by their names.
+use Rattle.std.specs.Prelude.{◌≡◌, ℕ, List, [], ◌∷◌, ◌++◌, Option, Some, None, length}
+use Rattle.std.specs.List.{IsDistinct}
+use Rattle.std.specs.Str.{bytes_eq}
+use Rattle.json_value.specs.declared.tree.Json.{Json}
+use Rattle.merge_paths.specs.declared.others.Others.{Others}
+
+abbrev pub put_last : List (List ℕ × Json) → List ℕ → Option Json → List (List ℕ × Json)
+put_last ms name None = ms
+put_last ms name (Some v) = ms ++ ((name, v) ∷ [])
+
+-- the members of these names whose values are there, the last first
+abbrev pub back : List (List ℕ) → List (Option Json) → List (List ℕ × Json)
+back [] values = []
+back (name ∷ names) [] = []
+back (name ∷ names) (o ∷ values) = put_last (back names values) name o
+
+-- the members that were not taken
+abbrev pub left : Others → List (List ℕ × Json)
+left others = others.listed ++ back others.names.keys others.values.items
+
+-- the index has a name once, and for each name a value or None
+pub record IsIndexed (others : Others) : Type 0 where
+  pub differ : IsDistinct bytes_eq others.names.keys
+  pub long : length others.values.items ≡ length others.names.keys

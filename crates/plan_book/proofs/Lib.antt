@@ -1,0 +1,12 @@
+pub mod Found
+pub mod Each
+pub mod Needing
+pub mod Depths
+pub mod Deeper
+pub mod Noding
+pub mod Entering
+pub mod Formed
+pub mod Levels
+pub mod Keeping
+pub mod LawfulEntries
+pub mod Determined

@@ -1,0 +1,10 @@
+pub mod Equations
+pub mod Ends
+pub mod Asking
+pub mod Staying
+pub mod Keeping
+pub mod Fewer
+pub mod Rounds
+pub mod Orders
+pub mod InOrder
+pub mod Ended
