@@ -1,0 +1,11 @@
+pub mod KeptObjects
+pub mod LoneCalls
+pub mod Hands
+pub mod Chains
+pub mod FoundObjects
+pub mod ChainLaws
+pub mod StandingHits
+pub mod Rounds
+pub mod Coherent
+pub mod Amid
+pub mod TestObjects

@@ -1,0 +1,4 @@
+pub mod Inputs
+pub mod Rules
+pub mod Faults
+pub mod Lawful
