@@ -1,0 +1,3 @@
+pub mod Asking
+pub mod Asks
+pub mod Texts

@@ -1,0 +1,13 @@
+pub mod Joining
+pub mod Settling
+pub mod Gathering
+pub mod Unpacking
+pub mod Reporting
+pub mod Replying
+pub mod Sending
+pub mod Parting
+pub mod FetchParts
+pub mod Pins
+pub mod FoundPieces
+pub mod Counting
+pub mod TestKeys

@@ -1,0 +1,4 @@
+pub mod Running
+pub mod Justifying
+pub mod Firsts
+pub mod Values
