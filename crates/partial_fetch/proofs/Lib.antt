@@ -1,0 +1,6 @@
+mod Accepted
+mod Bringing
+mod Causing
+mod Ending
+mod Entries
+mod Promise
