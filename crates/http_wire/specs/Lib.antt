@@ -1,0 +1,12 @@
+pub mod Answers
+pub mod Bodies
+pub mod Chunks
+pub mod EmptyLine
+pub mod Framings
+pub mod Heads
+pub mod Messages
+pub mod ReadBack
+pub mod Replies
+pub mod ReplyAnswers
+pub mod Taking
+pub mod Writing
