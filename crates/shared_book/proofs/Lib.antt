@@ -1,0 +1,4 @@
+pub mod HandleTurns
+pub mod Own
+pub mod Ending
+pub mod WrittenBack
