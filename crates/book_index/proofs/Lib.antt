@@ -1,0 +1,9 @@
+pub mod Order
+pub mod Rows
+pub mod Maps
+pub mod Search
+pub mod Latest
+pub mod Telling
+pub mod Sets
+pub mod Named
+pub mod Counting
