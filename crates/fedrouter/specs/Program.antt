@@ -4,40 +4,43 @@ use Rattle.std.specs.Io.KnownBytes.{Appends, Keeps}
 use Rattle.flow_base.specs.Causes.{Rose, AppendsFront}
 use Rattle.fedrouter.specs.declared.words.Command.{Command}
 use Rattle.fedrouter.specs.declared.words.Command.TheVariants as command
+use Rattle.fedrouter.specs.Words.{IsAsked}
+use Rattle.rehearsal.specs.Outside.{Output, Outside}
 use Rattle.rehearsal.specs.Rehearsing.{IsRehearsed}
-
--- what the program finds of source and sink, or leaves: the bytes that are left, those that were written, and the counts of faults
-pub record Outside : Type 0 where
-  pub left : Option (List ℕ)
-  pub written : Option (List ℕ)
-  pub source_faults : ℕ
-  pub sink_faults : ℕ
-
--- the source is not touched
-pub record LeavesSource (old new : Outside) : Type 0 where
-  pub left : Keeps old.left new.left
-  pub faults : new.source_faults ≡ old.source_faults
+use Rattle.case_run.specs.Asking as case
 
 -- the text was written whole, and this is the status; or the sink failed, a front of it was written, and the status is 7
-abbrev pub Writes : List ℕ → ℕ → (written new : Option (List ℕ)) → (before after : ℕ) → ℕ → Type 0
-Writes text status written new before after answer = ((answer ≡ status) × Appends written new text)
-    ⊎ ((answer ≡ 7) × Rose before after × AppendsFront written new text)
+abbrev pub Prints : List ℕ → ℕ → Output → ℕ → Output → Type 0
+Prints text status old answer new = ((answer ≡ status) × Appends old.written new.written text)
+    ⊎ ((answer ≡ 7) × Rose old.faults new.faults × AppendsFront old.written new.written text)
 
--- only a text is written
-pub record Tells (text : List ℕ) (status : ℕ) (old : Outside) (answer : ℕ) (new : Outside) : Type 0 where
-  pub untouched : LeavesSource old new
-  pub writes : Writes text status old.written new.written old.sink_faults new.sink_faults answer
+-- only a text is written: the source is not touched
+pub record OnlyPrints (text : List ℕ) (status : ℕ) (old : Outside) (answer : ℕ) (new : Outside) : Type 0 where
+  pub left : Keeps old.input.left new.input.left
+  pub faults : new.input.faults ≡ old.input.faults
+  pub prints : Prints text status old.output answer new.output
 
 -- what --help and --version write
 abbrev pub usage : List ℕ
-usage = codes "usage: fedrouter rehearse EVENTS BYTES\nor: fedrouter --help\nor: fedrouter --version\n\nrehearse reads a script of cache steps from standard input, runs it on a cache with room for\nEVENTS events (8 to 65536) and BYTES bytes of pieces (16 to 268435456), and writes one line\nfor each step.\n"
+usage = codes "usage: fedrouter rehearse EVENTS BYTES\nor: fedrouter ask\nor: fedrouter --help\nor: fedrouter --version\n\nrehearse reads a script of cache steps from standard input, runs it on a cache with room for\nEVENTS events (8 to 65536) and BYTES bytes of pieces (16 to 268435456), and writes one line\nfor each step.\nask reads a case from standard input, a schema with plans, requests and replies, runs the\nrequests one after the other over one cache, and writes what is sent and what is answered.\n"
 
 abbrev pub version : List ℕ
 version = codes "fedrouter 0.1.0\n"
 
--- what the command does and answers
-abbrev pub Does : Option Command → Outside → ℕ → Outside → Type 0
-Does (Some (command.Rehearse limits)) old answer new = IsRehearsed limits old.left new.left old.source_faults new.source_faults old.written new.written old.sink_faults new.sink_faults answer
-Does (Some command.Help) old answer new = Tells usage 0 old answer new
-Does (Some command.Version) old answer new = Tells version 0 old answer new
-Does None old answer new = Tells (codes "words refused\n") 2 old answer new
+-- what the command does, and its status
+abbrev pub Performs : Option Command → Outside → ℕ → Outside → Type 0
+Performs (Some (command.Rehearse limits)) old status new = IsRehearsed limits old status new
+Performs (Some command.Ask) old status new = case.IsAsked old status new
+Performs (Some command.Help) old status new = OnlyPrints usage 0 old status new
+Performs (Some command.Version) old status new = OnlyPrints version 0 old status new
+Performs None old status new = OnlyPrints (codes "words refused\n") 2 old status new
+
+-- what the program does for these words, and its status
+abbrev pub Obeys : List (List ℕ) → Outside → ℕ → Outside → Type 0
+Obeys words old status new = (asked : Option Command) × IsAsked words asked × Performs asked old status new
+
+-- so it does for the words that are given, and where there are none for want of memory, the status is 9 and nothing is
+-- read or written
+abbrev pub ObeysGiven : Option (List (List ℕ)) → Outside → ℕ → Outside → Type 0
+ObeysGiven (Some words) old status new = Obeys words old status new
+ObeysGiven None old status new = (status ≡ 9) × (new ≡ old)

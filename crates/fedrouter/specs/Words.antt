@@ -1,5 +1,10 @@
 -- What the words of the command line ask for.
-use Rattle.std.specs.Prelude.{ℕ, ◌≤◌, List, codes, Option, Some, None}
+use Rattle.std.specs.Prelude.{◌≡◌, ◌≢◌, ℕ, ◌≤◌, List, [], codes, drop, map, Option, Some, None, Result, Ok, Err, String, string_bytes}
+use Rattle.std.specs.Vec.Iter.{into_iter_items}
+use Rattle.std.specs.declared.vec.IntoIter.{IntoIter}
+use Rattle.std.specs.IoError.{error_kind}
+use Rattle.std.specs.declared.io.Error.{Error}
+use Rattle.std.specs.declared.io.ErrorKind.TheVariants as kind
 use Rattle.script_lines.specs.Script.{IsNumber}
 use Rattle.script_lines.specs.Commands.{HasForm, word}
 use Rattle.fedrouter.specs.declared.words.Command.{Command}
@@ -13,18 +18,31 @@ pub record IsWithin (text : List ℕ) (least most n : ℕ) : Type 0 where
   pub to : n ≤ most
 
 -- rehearse EVENTS BYTES
-pub record AsksToRehearse (words : List (List ℕ)) (limits : Limits) : Type 0 where
+pub record IsRehearseLine (words : List (List ℕ)) (limits : Limits) : Type 0 where
   pub form : HasForm words (codes "rehearse") 3
   pub events : IsWithin (word words 1) 8 65536 limits.events
   pub bytes : IsWithin (word words 2) 16 268435456 limits.bytes
 
--- the words ask for the command
-abbrev pub Asks : List (List ℕ) → Command → Type 0
-Asks words (command.Rehearse limits) = AsksToRehearse words limits
-Asks words command.Help = HasForm words (codes "--help") 1
-Asks words command.Version = HasForm words (codes "--version") 1
+-- the words of the command
+abbrev pub IsCommandLine : List (List ℕ) → Command → Type 0
+IsCommandLine words (command.Rehearse limits) = IsRehearseLine words limits
+IsCommandLine words command.Ask = HasForm words (codes "ask") 1
+IsCommandLine words command.Help = HasForm words (codes "--help") 1
+IsCommandLine words command.Version = HasForm words (codes "--version") 1
 
 -- the command that the words ask for, or none
 abbrev pub IsAsked : List (List ℕ) → Option Command → Type 0
-IsAsked words (Some c) = Asks words c
-IsAsked words None = (c : Command) → Asks words c → ⊥
+IsAsked words (Some c) = IsCommandLine words c
+IsAsked words None = (c : Command) → IsCommandLine words c → ⊥
+
+-- the words after the program's name
+abbrev pub after_name : {A : Type 0} → List (String A) → List (List ℕ)
+after_name args = drop 1 (map string_bytes args)
+
+-- the words that are given: those after the name; none stand for words that are not UTF-8; and where memory ran out for
+-- the words, there are none
+abbrev pub AreGiven : {A : Type 0} → Result (IntoIter (String A) A) Error → Option (List (List ℕ)) → Type 0
+AreGiven (Ok args) (Some words) = words ≡ after_name (into_iter_items args)
+AreGiven (Ok args) None = Unit {0}
+AreGiven (Err e) (Some words) = (words ≡ []) × (error_kind e ≢ kind.OutOfMemory)
+AreGiven (Err e) None = error_kind e ≡ kind.OutOfMemory

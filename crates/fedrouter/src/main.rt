@@ -3,21 +3,19 @@
 #![tactic(auto)]
 
 mod program;
+mod run;
 mod standard;
 #[cfg(test)]
 mod tests;
 mod words;
 
-use program::run_program;
+use run::run;
 use standard::{StdSink, StdSource};
+use std::env;
 use std::process::ExitCode;
-use words::given_words;
 
 fn main(rt: HostRuntime) -> ExitCode {
     let mut source = StdSource::new(&rt);
     let mut sink = StdSink::new(&rt);
-    match given_words(&rt) {
-        Ok(words) => ExitCode::from(run_program(rt.alloc(), &words, &mut source, &mut sink)),
-        Err(_) => ExitCode::from(program::NO_MEMORY),
-    }
+    run(rt.alloc(), env::args(&rt), &mut source, &mut sink)
 }

@@ -1,9 +1,9 @@
-ghost use Rattle.std.specs.Prelude.{◌≤◌, Option};
-ghost use Rattle.fedrouter.specs.declared.words.Command.{Command};
-ghost use Rattle.fedrouter.specs.Words.{IsAsked};
-ghost use Rattle.fedrouter.specs.Program.{Does, Writes};
+ghost use Rattle.std.specs.Prelude.{◌≤◌};
+ghost use Rattle.rehearsal.specs.Outside.{input, output, outside};
+ghost use Rattle.fedrouter.specs.Program.{Obeys, Prints};
 
 use crate::words::{Command, read_words};
+use case_run::ask;
 use flow_base::{Sink, Source, Text, put_all};
 use rehearsal::rehearse;
 use std::alloc::Global;
@@ -22,18 +22,21 @@ pub const NO_MEMORY: u8 = 9;
 
 /// What `--help` writes.
 const USAGE: &str = "usage: fedrouter rehearse EVENTS BYTES\n\
+    or: fedrouter ask\n\
     or: fedrouter --help\n\
     or: fedrouter --version\n\
     \n\
     rehearse reads a script of cache steps from standard input, runs it on a cache with room for\n\
     EVENTS events (8 to 65536) and BYTES bytes of pieces (16 to 268435456), and writes one line\n\
-    for each step.\n";
+    for each step.\n\
+    ask reads a case from standard input, a schema with plans, requests and replies, runs the\n\
+    requests one after the other over one cache, and writes what is sent and what is answered.\n";
 
 /// What `--version` writes.
 const VERSION: &str = "fedrouter 0.1.0\n";
 
 /// Does what the words ask for, from `source` to `sink`, and answers the status of the process: 0 where
-/// it is done, 2 where the words ask for nothing, 5 where the script is refused, 6 where the source
+/// it is done, 2 where the words ask for nothing, 5 where the script or the case is refused, 6 where the source
 /// failed, 7 where the sink failed, 9 where memory ran out.
 pub fn run_program<S: Source, K: Sink>(
     alloc: Global,
@@ -41,24 +44,29 @@ pub fn run_program<S: Source, K: Sink>(
     source: &mut S,
     sink: &mut K,
 ) -> u8
-    ensures does { (asked : Option Command) × IsAsked words.now.items asked × Does asked
-        (record { left = S.left source.old; written = K.written sink.old; source_faults = S.faults source.old; sink_faults = K.faults sink.old })
+    ensures does { Obeys words.now.items
+        (outside (input (S.left source.old) (S.faults source.old))
+        (output (K.written sink.old) (K.faults sink.old)))
         result
-        (record { left = S.left source.new; written = K.written sink.new; source_faults = S.faults source.new; sink_faults = K.faults sink.new }) }
+        (outside (input (S.left source.new) (S.faults source.new))
+        (output (K.written sink.new) (K.faults sink.new))) }
     ensures source_later { S.faults source.old ≤ S.faults source.new }
     ensures sink_later { K.faults sink.old ≤ K.faults sink.new }
 {
     match read_words(words) {
         Some(Command::Rehearse(limits)) => rehearse(alloc, limits, source, sink),
-        Some(Command::Help) => tell(sink, USAGE, DONE),
-        Some(Command::Version) => tell(sink, VERSION, DONE),
-        None => tell(sink, "words refused\n", WORDS_REFUSED),
+        Some(Command::Ask) => ask(alloc, source, sink),
+        Some(Command::Help) => print(sink, USAGE, DONE),
+        Some(Command::Version) => print(sink, VERSION, DONE),
+        None => print(sink, "words refused\n", WORDS_REFUSED),
     }
 }
 
 // Writes a text and answers the status, or that the sink failed.
-fn tell<K: Sink>(sink: &mut K, text: &str, status: u8) -> u8
-    ensures writes { Writes text.now status (K.written sink.old) (K.written sink.new) (K.faults sink.old) (K.faults sink.new) result }
+fn print<K: Sink>(sink: &mut K, text: &str, status: u8) -> u8
+    ensures prints { Prints text.now status
+        (output (K.written sink.old) (K.faults sink.old)) result
+        (output (K.written sink.new) (K.faults sink.new)) }
     ensures later { K.faults sink.old ≤ K.faults sink.new }
 {
     match put_all(sink, text.as_bytes()) {

@@ -1,19 +1,20 @@
-ghost use Rattle.std.specs.Prelude.{◌≢◌, ◌≤◌, length, IfSome};
+ghost use Rattle.std.specs.Prelude.{◌≡◌, ◌≢◌, ◌<◌, ◌≤◌, take, length, IfSome, IfNone};
+ghost use Rattle.std.specs.Io.KnownBytes.{Keeps, Consumes, Appends, IsAtEnd};
 
 use flow_base::{Failed, Sink, Source};
 use std::io;
 use std::io::{ErrorKind, Print, Printer, Read, Write};
 
-/// Standard input, or what stands in its place. It counts each read that fails and tells nothing of the
-/// bytes. A read that a signal interrupts is tried again.
+/// Standard input, or what stands in its place. It tells what bytes are left where its reader tells that, and
+/// counts each read that fails. A read that a signal interrupts is tried again.
 #[derive(Drop)]
 pub struct StdSource<R: Drop> {
     reader: R,
     faults: u64,
 }
 
-/// Standard output, or what stands in its place. It counts each write that fails or takes nothing, and
-/// tells nothing of the bytes. A write that a signal interrupts is tried again.
+/// Standard output, or what stands in its place. It tells what bytes were written where its writer tells that,
+/// and counts each write that fails or takes nothing. A write that a signal interrupts is tried again.
 #[derive(Drop)]
 pub struct StdSink<W: Drop> {
     writer: W,
@@ -21,26 +22,31 @@ pub struct StdSink<W: Drop> {
 }
 
 impl<R: Read + Drop> StdSource<R> {
-    pub fn new<I: Input<Reader = R>>(rt: &I) -> StdSource<R> {
-        StdSource {
-            reader: rt.reader(),
-            faults: 0,
-        }
+    pub fn new<I: Input<Reader = R>>(rt: &I) -> StdSource<R>
+        ensures { result.faults ≡ 0 }
+    {
+        let reader = rt.reader();
+        StdSource { reader, faults: 0 }
     }
 }
 
 impl<'a, P: Print> StdSink<Printer<'a, P>> {
-    pub fn new(rt: &'a P) -> StdSink<Printer<'a, P>> {
-        StdSink {
-            writer: io::writer(rt),
-            faults: 0,
-        }
+    pub fn new(rt: &'a P) -> StdSink<Printer<'a, P>>
+        ensures { result.faults ≡ 0 }
+    {
+        let writer = io::writer(rt);
+        StdSink { writer, faults: 0 }
     }
 }
 
 // One read, tried again where a signal interrupts it. None where it fails.
 fn read_through<R: Read>(reader: &mut R, buf: &mut [u8]) -> Option<usize>
-    ensures { IfSome result (λ n. n ≤ length buf.new) }
+    ensures within { IfSome result (λ n. n ≤ length buf.new) }
+    ensures bytes { IfSome result (λ n.
+        Consumes (R.remaining reader.old) (R.remaining reader.new) (take n buf.new)) }
+    ensures end { IfSome result (λ n.
+        n ≡ 0 → 0 < length buf.new → IsAtEnd (R.remaining reader.new)) }
+    ensures kept { IfNone result (Keeps (R.remaining reader.old) (R.remaining reader.new)) }
 {
     for _ in 0..u64::MAX {
         match reader.read(buf) {
@@ -59,6 +65,9 @@ fn read_through<R: Read>(reader: &mut R, buf: &mut [u8]) -> Option<usize>
 fn write_through<W: Write>(writer: &mut W, bytes: &[u8]) -> Option<usize>
     ensures within { IfSome result (λ n. n ≤ length bytes.now) }
     ensures some { IfSome result (λ n. n ≢ 0) }
+    ensures bytes { IfSome result (λ n.
+        Appends (W.contents writer.old) (W.contents writer.new) (take n bytes.now)) }
+    ensures kept { IfNone result (Keeps (W.contents writer.old) (W.contents writer.new)) }
 {
     for _ in 0..u64::MAX {
         match writer.write(bytes) {
@@ -75,9 +84,7 @@ fn write_through<W: Write>(writer: &mut W, bytes: &[u8]) -> Option<usize>
 }
 
 impl<R: Read + Drop> Source for StdSource<R> {
-    ghost use Rattle.std.specs.Prelude.{None};
-
-    ghost left = { λ _. None };
+    ghost left = { λ s. R.remaining s.reader };
 
     ghost faults = { λ s. s.faults };
 
@@ -93,9 +100,7 @@ impl<R: Read + Drop> Source for StdSource<R> {
 }
 
 impl<W: Write + Drop> Sink for StdSink<W> {
-    ghost use Rattle.std.specs.Prelude.{None};
-
-    ghost written = { λ _. None };
+    ghost written = { λ s. W.contents s.writer };
 
     ghost faults = { λ s. s.faults };
 

@@ -1,19 +1,23 @@
-use crate::program::run_program;
-use flow_base::{Bytes, MemSink, MemSource, Memory, Text};
+use crate::run::run;
+use flow_base::{Bytes, MemSink, MemSource, Memory};
 use std::alloc::Global;
+use std::io;
+use std::io::ErrorKind;
+use std::process::ExitCode;
 use std::test::*;
 
-// Whether the words, with this input, give this output and status.
+// Whether the words after the program's name, with this input, give this output and status.
 fn gives(alloc: Global, line: &str, input: &str, output: &str, status: u8) -> Result<bool, Memory> {
     let mut words = Vec::new(alloc);
+    words.push(String::from_str(alloc, "fedrouter")?)?;
     for word in line.split_whitespace() {
-        words.push(Text::of(alloc, word)?)?;
+        words.push(String::from_str(alloc, word)?)?;
     }
     let bytes = Bytes::of(alloc, input.as_bytes())?;
     let mut source = MemSource::of(bytes, Vec::new(alloc), Vec::new(alloc));
     let mut sink = MemSink::of(alloc, 4096, Vec::new(alloc), Vec::new(alloc))?;
-    let got = run_program(alloc, &words, &mut source, &mut sink);
-    Ok(got == status && sink.written() == output.as_bytes())
+    let got = run(alloc, Ok(words.into_iter()), &mut source, &mut sink);
+    Ok(got == ExitCode::from(status) && sink.written() == output.as_bytes())
 }
 
 #[test]
@@ -30,11 +34,33 @@ fn words_pick_the_command(rt: HostRuntime) -> Result<(), Fail> {
         ("rehearse 64 268435457", script, "words refused\n", 2),
         ("rehearse 64", script, "words refused\n", 2),
         ("", script, "words refused\n", 2),
+        ("ask", "{}", "case refused member schema\n", 5),
+        ("ask now", "{}", "words refused\n", 2),
         ("--version", script, "fedrouter 0.1.0\n", 0),
     ];
     for (line, input, output, status) in table {
         assert!(rt; gives(alloc, line, input, output, status)?);
     }
+    Ok(())
+}
+
+// Whether words that the system does not give for this reason have this output and status.
+fn refuses(alloc: Global, kind: ErrorKind, output: &str, status: u8) -> Result<bool, Memory> {
+    let mut source = MemSource::of(
+        Bytes::of(alloc, b"tally\n")?,
+        Vec::new(alloc),
+        Vec::new(alloc),
+    );
+    let mut sink = MemSink::of(alloc, 4096, Vec::new(alloc), Vec::new(alloc))?;
+    let got = run(alloc, Err(io::Error::from(kind)), &mut source, &mut sink);
+    Ok(got == ExitCode::from(status) && sink.written() == output.as_bytes())
+}
+
+#[test]
+fn words_may_be_missing(rt: HostRuntime) -> Result<(), Fail> {
+    let alloc = rt.alloc();
+    assert!(rt; refuses(alloc, ErrorKind::InvalidData, "words refused\n", 2)?);
+    assert!(rt; refuses(alloc, ErrorKind::OutOfMemory, "", 9)?);
     Ok(())
 }
 

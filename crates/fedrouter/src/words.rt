@@ -3,34 +3,16 @@ ghost use Rattle.script_lines.specs.Commands.{HasForm};
 ghost use Rattle.fedrouter.specs.Words.{IsAsked, IsWithin};
 
 use cache_terms::Limits;
-use flow_base::{Memory, Text};
+use flow_base::Text;
 use script_lines::number;
-use std::env;
-use std::env::Env;
-use std::io::ErrorKind;
 
 /// What the words of the command line ask for.
 #[derive(Clone, Copy, Debug, PartialEq, Eq)]
 pub enum Command {
     Rehearse(Limits),
+    Ask,
     Help,
     Version,
-}
-
-/// The words of the command line, without the program's name. Words that are not UTF-8 are no words of
-/// any command: none at all stand for them.
-pub fn given_words<R: Env + AllocGlobal>(rt: &R) -> Result<Vec<Text>, Memory> {
-    let mut words = Vec::new(rt.alloc());
-    match env::args(rt) {
-        Ok(args) => {
-            for word in args.skip(1) {
-                words.push(Text::from_string(word))?;
-            }
-            Ok(words)
-        }
-        Err(error) if error.kind() == ErrorKind::OutOfMemory => Err(Memory),
-        Err(_) => Ok(words),
-    }
 }
 
 /// The command that the words ask for, if they ask for one.
@@ -39,6 +21,9 @@ pub fn read_words(words: &[Text]) -> Option<Command>
 {
     if has_form(words, "rehearse", 3) {
         return read_rehearse(words);
+    }
+    if has_form(words, "ask", 1) {
+        return Some(Command::Ask);
     }
     if has_form(words, "--help", 1) {
         return Some(Command::Help);
@@ -72,7 +57,9 @@ fn read_rehearse(words: &[Text]) -> Option<Command>
 
 // The number that the word is, where it lies from `least` to `most`.
 fn limit(word: &str, least: u64, most: u64) -> Option<u64>
-    ensures { MatchOption result ((n : ℕ) → IsWithin word.now least most n → ⊥) (λ n. IsWithin word.now least most n) }
+    ensures { MatchOption result
+        ((n : ℕ) → IsWithin word.now least most n → ⊥)
+        (λ n. IsWithin word.now least most n) }
 {
     match number(word) {
         None => None,

@@ -1,0 +1,4 @@
+pub mod Each
+pub mod Wholes
+pub mod Made
+pub mod OneCase

@@ -1,0 +1,6 @@
+pub mod Sent
+pub mod Standing
+pub mod Stills
+pub mod Telling
+pub mod Going
+pub mod Written

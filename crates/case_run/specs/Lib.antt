@@ -1,0 +1,5 @@
+pub mod Clocks
+pub mod Texts
+pub mod Runs
+pub mod Asking
+pub mod Playing
