@@ -34,7 +34,7 @@ pub fn time<R: Runtime<A = Global>>(rt: &R, turns: u32) -> Result<()> {
 }
 
 /// What was counted before, and the nanoseconds since the start.
-fn nanoseconds<R: Runtime>(rt: &R, before: u64, start: Instant) -> Result<u64> {
+pub fn nanoseconds<R: Runtime>(rt: &R, before: u64, start: Instant) -> Result<u64> {
     let spent = u64::try_from(start.elapsed(rt)?.as_nanos()).unwrap_or(u64::MAX);
     Ok(before.saturating_add(spent))
 }

@@ -1,34 +1,66 @@
 //! Times the product's hot paths on what it is given: `bench json TURNS` reads one JSON text from standard input, and
-//! prints for reading and for printing it a line of bytes, turns and nanoseconds of all turns together.
+//! prints for reading and for printing it a line of bytes, turns and nanoseconds of all turns together; `bench documents
+//! TURNS` does so for reading a GraphQL document and writing its canonical text, `bench http TURNS` for reading a stream of
+//! requests, and `bench shape TURNS` for shaping data by a schema and a query. `bench plan TURNS` makes what it works on itself:
+//! entities that are gathered and placed. `bench turns THREADS TURNS` times threads that share one book.
 #![tactic(auto)]
 
+mod documents;
+mod http;
 mod json;
+mod plan;
+mod shape;
+mod turns;
 
 use anyhow::{Context, Result, bail};
 use std::alloc::Global;
 use std::env;
 use std::rt::Runtime;
+use std::sync::Wait;
+use std::thread::Threads;
 
 const USAGE: &str = "usage: bench json TURNS < TEXT
-Times the reading and the printing of a JSON text, each TURNS times.";
+       bench documents TURNS < DOCUMENT
+       bench http TURNS < REQUESTS
+       bench plan TURNS
+       bench shape TURNS < CASE
+       bench turns THREADS TURNS
+Times the reading and the printing of a JSON text or of a GraphQL document, the reading of a stream of HTTP requests, the
+gathering and placing of entities, or the shaping of data, each TURNS times; or TURNS turns of each of some threads on one book.";
 
 fn main(rt: HostRuntime) -> Result<()> {
     run(&rt)
 }
 
-fn run<R: Runtime<A = Global>>(rt: &R) -> Result<()> {
+fn run<R: Runtime<A = Global> + Threads + Wait + Clone + Drop + Send + Sync>(rt: &R) -> Result<()> {
     let mut words = env::args(rt)?;
     let _ = words.next();
     let Some(what) = words.next() else {
         rt.println(USAGE)?;
         return Ok(());
     };
-    let Some(turns) = words.next() else {
-        bail!("{USAGE}");
-    };
-    if what.as_str() != "json" {
-        bail!("{USAGE}");
+    let first = number(words.next())?;
+    if what.as_str() == "turns" {
+        let each = number(words.next())?;
+        return turns::time(rt, first, each);
     }
-    let turns = turns.parse::<u32>().context("TURNS is a number")?;
-    json::time(rt, turns)
+    time(rt, what.as_str(), first)
+}
+
+fn number(word: Option<String>) -> Result<u32> {
+    match word {
+        Some(digits) => digits.parse::<u32>().context("TURNS is a number"),
+        None => bail!("{USAGE}"),
+    }
+}
+
+fn time<R: Runtime<A = Global>>(rt: &R, what: &str, turns: u32) -> Result<()> {
+    match what {
+        "json" => json::time(rt, turns),
+        "documents" => documents::time(rt, turns),
+        "http" => http::time(rt, turns),
+        "plan" => plan::time(rt, turns),
+        "shape" => shape::time(rt, turns),
+        _ => bail!("{USAGE}"),
+    }
 }
