@@ -45,7 +45,8 @@ fn seat_all<S: Storied + Drop>(
     requires members { (1 ≤ members) × (members ≤ 64) }
     requires table { IsAt (arc_value lock).shared.table_id first.table_id }
     requires first { first.me ≡ (newest 0 (arc_value lock).shared.key.value, []) }
-    ensures { IfOk result (λ v. v.items ≡ newcomers first.table_id (arc_value lock).shared.key.value members) }
+    ensures { IfOk result
+        (λ v. v.items ≡ newcomers first.table_id (arc_value lock).shared.key.value members) }
 {
     let mut all = Vec::new(alloc);
     let mut place = first;

@@ -9,7 +9,7 @@ use crate::plays::{Advance, Draw, Lock, Place, Watch};
 use crate::storied::Storied;
 use std::sync::Wait;
 
-// How often a member looks for its turn before it sleeps.
+// How often a member looks for its turn before it sleeps, each time anew: who was woken is often one of the next.
 const LOOKS: u32 = 64;
 
 /// Draws a ticket.
@@ -18,7 +18,11 @@ pub(crate) fn draw<S: Storied>(lock: &Lock<S>, place: &mut Place<S>) -> u64
     requires outside { place.old.me.0.stage ≡ Outside }
     requires few { place.old.me.0.draws < length place.old.me.0.parts * draws_of_one }
     ensures table { place.new.table_id ≡ place.old.table_id }
-    ensures view { place.new.me ≡ (record place.old.me.0 { draws = place.old.me.0.draws + 1; stage = Waiting result }, place.old.me.1) }
+    ensures view { place.new.me ≡ (
+      record place.old.me.0
+          { draws = place.old.me.0.draws + 1; stage = Waiting result },
+      place.old.me.1,
+    ) }
 {
     lock.shared.fetch_add::<Draw>(place, 0, 1)
 }
@@ -46,6 +50,7 @@ pub(crate) fn come_in<S: Storied, R: Wait>(
             looks += 1;
         } else {
             lock.shared.park(rt, 1, (serving % (1 << 32)) as u32);
+            looks = 0;
         }
     }
     unreachable!()
@@ -54,7 +59,9 @@ pub(crate) fn come_in<S: Storied, R: Wait>(
 /// Gives the state back, and lets the next ticket in.
 pub(crate) fn go_out<S: Storied>(lock: &Lock<S>, place: &mut Place<S>, state: S)
     requires table { IsAt lock.now.shared.table_id place.old.table_id }
-    requires turn { (p : Part S) × (t : ℕ) × (x : S) × (place.old.me.0.parts ≡ p ∷ []) × (place.old.me.0.stage ≡ Inside t x) × (place.old.me.1 ≡ (0, None) ∷ []) × S.by x state p.number }
+    requires turn { (p : Part S) × (t : ℕ) × (x : S) × (place.old.me.0.parts ≡ p ∷ [])
+        × (place.old.me.0.stage ≡ Inside t x) × (place.old.me.1 ≡ (0, None) ∷ [])
+        × S.by x state p.number }
     ensures table { place.new.table_id ≡ place.old.table_id }
     ensures view { place.new.me ≡ (turn_over state place.old.me.0, []) }
 {

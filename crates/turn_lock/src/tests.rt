@@ -8,7 +8,8 @@ use flow_base::Memory;
 use std::alloc::Global;
 use std::sync::Wait;
 use std::test::Fail;
-use std::thread::{Threads, for_each_mut};
+use std::thread::{Threads, for_each_mut, sleep};
+use std::time::{Clock, Duration};
 
 // How many turns there were.
 #[derive(Drop)]
@@ -38,21 +39,33 @@ impl Storied for Count {
     ghost by_without = { λ j k a b ab apart. tt };
 }
 
-fn take_turns<R: Wait>(rt: &R, member: &mut Member<Count>)
+// So many turns, each held for a while where that is given.
+fn take_turns<R: Wait + Clock>(
+    rt: &R,
+    member: &mut Member<Count>,
+    turns: u64,
+    held: Option<Duration>,
+)
     requires { member.old.stage ≡ Outside }
     ensures { (member.new.stage ≡ Outside) × (member.new.home ≡ member.old.home) }
 {
-    for _ in 0..1000u64 {
+    for _ in 0..turns {
         let Count { total } = member.enter(rt);
+        if let Some(while_others_wait) = held {
+            sleep(rt, while_others_wait);
+        }
         member.leave(Count {
             total: total.saturating_add(1),
         });
     }
 }
 
-fn take_all_turns<R: Threads + Wait + Clone + Drop + Send + Sync>(
+// A thousand turns by each, but twenty by the first where it holds its turns for two milliseconds: far longer
+// than who waits looks before it sleeps.
+fn take_all_turns<R: Threads + Wait + Clock + Clone + Drop + Send + Sync>(
     rt: &R,
     members: &mut [Member<Count>],
+    first_is_slow: bool,
 )
     requires { (home : TableId) × AreOutside home members.old }
     ensures { (home : TableId) × AreOutside home members.new }
@@ -61,23 +74,30 @@ fn take_all_turns<R: Threads + Wait + Clone + Drop + Send + Sync>(
         rt,
         members,
         16,
-        &|_, member: &mut Member<Count>|
+        &|number, member: &mut Member<Count>|
             requires { member.old.stage ≡ Outside }
             ensures { (member.new.stage ≡ Outside) × (member.new.home ≡ member.old.home) }
-        { take_turns(rt, member) },
+        {
+            if first_is_slow && number == 0 {
+                take_turns(rt, member, 20, Some(Duration::from_millis(2)))
+            } else {
+                take_turns(rt, member, 1000, None)
+            }
+        },
     );
 }
 
-// What is counted where so many threads take a thousand turns each.
-fn counted_by<R: Threads + Wait + Clone + Drop + Send + Sync>(
+// What is counted where so many threads take turns.
+fn counted_by<R: Threads + Wait + Clock + Clone + Drop + Send + Sync>(
     alloc: Global,
     rt: &R,
     members: u32,
+    first_is_slow: bool,
 ) -> Result<u64, Memory>
     requires { (1 ≤ members) × (members ≤ 64) }
 {
     let mut all = open(alloc, Count { total: 0 }, members)?;
-    take_all_turns(rt, all.as_mut_slice());
+    take_all_turns(rt, all.as_mut_slice(), first_is_slow);
     let Count { total } = close(rt, all);
     Ok(total)
 }
@@ -86,8 +106,21 @@ fn counted_by<R: Threads + Wait + Clone + Drop + Send + Sync>(
 fn no_turn_is_lost_or_shared(rt: HostRuntime) -> Result<(), Fail> {
     for members in [1, 2, 4, 16] {
         assert_eq!(rt;
-            counted_by(rt.alloc(), &rt, members)?,
+            counted_by(rt.alloc(), &rt, members, false)?,
             1000 * members as u64,
+            "by {members} threads"
+        );
+    }
+    Ok(())
+}
+
+// Who is slow in its turn makes the others wait, and nothing of theirs wrong.
+#[test]
+fn a_slow_member_loses_no_turn_of_others(rt: HostRuntime) -> Result<(), Fail> {
+    for members in [2, 4, 16] {
+        assert_eq!(rt;
+            counted_by(rt.alloc(), &rt, members, true)?,
+            20 + 1000 * (members as u64 - 1),
             "by {members} threads"
         );
     }
@@ -109,7 +142,7 @@ fn members_are_numbered_from_zero(rt: HostRuntime) -> Result<(), Fail> {
 #[test]
 fn who_is_outside_is_not_waited_for(rt: HostRuntime) -> Result<(), Fail> {
     let mut members = open(rt.alloc(), Count { total: 0 }, 2)?;
-    take_turns(&rt, &mut members[1]);
+    take_turns(&rt, &mut members[1], 1000, None);
     let Count { total } = close(&rt, members);
     assert_eq!(rt; total, 1000);
     Ok(())
