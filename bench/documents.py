@@ -5,8 +5,8 @@ Makes a query of about 1 MB: fields with aliases, arguments of each kind of valu
 characters past ASCII, inline fragments, spreads and fragments, with commas, comments and line ends between them. Reads
 it, and writes it again, in five runs of three turns each: by the program's `parse` and `canonical`, and by `parse` and
 `print` of each peer (locations left out, after one turn that is not timed). Prints the best of the five, and how many
-times as long the peer takes. Then it reads four copies of the document in one turn, by a process of its own, and prints
-the most memory that was held in bytes of the text, less what the program holds for the text `{a}`.
+times as long the peer takes. Then a process of its own reads four copies of the document once, in no turn that is timed,
+and the most memory that it held is printed in bytes of the text, less what the program holds for the text `{a}`.
 
 The peers are Debian's packages `node-graphql` and `python3-graphql-core`, and the memory is read by GNU's `time`. They
 are installed where apt-get can; what is missing is said so. (graphql-core is of an older standard, without null and block
@@ -133,7 +133,7 @@ def memory(path, text):
     """The most bytes that a process held which read the text once, or None where GNU's time is missing."""
     with tempfile.NamedTemporaryFile() as told:
         try:
-            subprocess.run(["/usr/bin/time", "-f", "%M", "-o", told.name, path, "documents", "1"], input=text,
+            subprocess.run(["/usr/bin/time", "-f", "%M", "-o", told.name, path, "documents", "0"], input=text,
                            stdout=subprocess.DEVNULL, check=True)
         except OSError:
             return None

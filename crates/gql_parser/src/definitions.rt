@@ -102,7 +102,8 @@ fn definition(
     tokens: &mut Tokens<'_, '_>,
     document: &mut Document,
 ) -> Result<(), Stop>
-    ensures { reads.Adds (spec.definition strict tokens.old) result document.old document.new tokens.new }
+    ensures { reads.Adds (spec.definition strict tokens.old) result document.old document.new
+        tokens.new }
 {
     if tokens.sees(Test::Is(Kind::Fragment)) {
         let found = fragment(alloc, tokens)?;
@@ -119,7 +120,8 @@ fn more_definitions(
     tokens: &mut Tokens<'_, '_>,
     document: &mut Document,
 ) -> Result<(), Stop>
-    ensures { reads.AddsAll (parse.many spec.begins_definition (spec.definition strict) tokens.old) result document.old document.new tokens.new }
+    ensures { reads.AddsAll (parse.many spec.begins_definition (spec.definition strict) tokens.old)
+        result document.old document.new tokens.new }
 {
     for _ in 0..tokens.len() {
         if !tokens.sees(Test::BeginsDefinition) {

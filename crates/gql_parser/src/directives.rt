@@ -5,6 +5,7 @@ ghost use Rattle.gql_terms.specs.Grammar.{strict};
 ghost use Rattle.gql_parser.specs.Reading as spec;
 ghost use Rattle.gql_parser.specs.Reads.{Reads};
 
+use crate::lists::fitted;
 use crate::tokens::{Stop, Test, Tokens};
 use crate::values::{pair, pairs};
 use flow_base::Text;
@@ -29,7 +30,7 @@ pub fn arguments(alloc: Global, tokens: &mut Tokens<'_, '_>) -> Result<Items<(Te
     found.push(pair(alloc, tokens, false, ROOM)?)?;
     let found = pairs(alloc, tokens, false, ROOM, found)?;
     tokens.one(Test::Is(Kind::CloseParen))?;
-    Ok(found)
+    Ok(fitted(found))
 }
 
 #[tactic(auto, unfolding(crate::specs::Reading::directive))]
@@ -49,7 +50,7 @@ pub fn directives(alloc: Global, tokens: &mut Tokens<'_, '_>) -> Result<Items<Di
     let mut found = Items::new(alloc);
     for _ in 0..tokens.len() {
         if !tokens.sees(Test::Is(Kind::At)) {
-            return Ok(found);
+            return Ok(fitted(found));
         }
         found.push(directive(alloc, tokens)?)?;
     }

@@ -35,7 +35,8 @@ fn consumes(alloc: Global, tokens: &[Token<'_>]) -> Result<bool, GqlFault>
 
 /// Whether some document begins with the tokens and one of this kind. They are left as they were.
 fn consumes_with(alloc: Global, tokens: &mut Vec<Token<'_>>, kind: Kind) -> Result<bool, GqlFault>
-    ensures tells { IfOk result (λ b. Tells b (Consumed (spec.all strict (tokens.old.items ++ any_of kind ∷ [])))) }
+    ensures tells { IfOk result
+        (λ b. Tells b (Consumed (spec.all strict (tokens.old.items ++ any_of kind ∷ [])))) }
     ensures same { IfOk result (λ b. tokens.new.items ≡ tokens.old.items) }
     ensures memory { IfErr result (λ e. e ≡ faults.Memory) }
 {
@@ -51,7 +52,8 @@ fn consumes_with(alloc: Global, tokens: &mut Vec<Token<'_>>, kind: Kind) -> Resu
 
 /// Whether a token of one of the kinds can follow the tokens.
 fn can_follow(alloc: Global, tokens: &mut Vec<Token<'_>>, kinds: &[Kind]) -> Result<bool, GqlFault>
-    ensures tells { IfOk result (λ b. Tells b (CanFollow (spec.all strict) tokens.old.items kinds.now)) }
+    ensures tells { IfOk result
+        (λ b. Tells b (CanFollow (spec.all strict) tokens.old.items kinds.now)) }
     ensures memory { IfErr result (λ e. e ≡ faults.Memory) }
 {
     for i in 0..kinds.len() {

@@ -1,10 +1,8 @@
 //! Laws of the definitions, each the contract of a function that does nothing.
 
-ghost use Rattle.std.specs.Prelude.{◌≡◌, ℕ, List};
-ghost use Rattle.gql_terms.specs.declared.documents.Document.{Document};
-ghost use Rattle.gql_parser.specs.Faults.{IsText};
+ghost use Rattle.gql_parser.specs.Laws.{TextsHaveOneDocument};
 
 /// A text is one document at most.
 pub fn text_is_one()
-    ensures { (text : List ℕ) (d : Document) (e : Document) → IsText d text → IsText e text → d ≡ e }
+    ensures { TextsHaveOneDocument }
 {}

@@ -6,6 +6,7 @@ mod definitions;
 pub mod directives;
 mod endings;
 mod laws;
+mod lists;
 mod selections;
 mod tokens;
 pub mod types;

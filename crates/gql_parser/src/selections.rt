@@ -9,6 +9,7 @@ ghost use Rattle.gql_parser.specs.Reading as spec;
 ghost use Rattle.gql_parser.specs.Reads.{Reads, prefixed};
 
 use crate::directives::{arguments, directives};
+use crate::lists::fitted;
 use crate::tokens::{Stop, Test, Tokens};
 use flow_base::Text;
 use gql_terms::{Refusal, Selection};
@@ -76,7 +77,8 @@ fn may_set(
     tokens: &mut Tokens<'_, '_>,
     room: usize,
 ) -> Result<Items<Selection>, Stop>
-    ensures { Reads (productions.optional spec.begins_set (spec.set strict room) [] tokens.old) result tokens.new }
+    ensures { Reads (productions.optional spec.begins_set (spec.set strict room) [] tokens.old)
+        result tokens.new }
 {
     if !tokens.sees(Test::BeginsSet) {
         return Ok(Items::new(alloc));
@@ -86,7 +88,9 @@ fn may_set(
 
 #[cycle(set)]
 fn field(alloc: Global, tokens: &mut Tokens<'_, '_>, room: usize) -> Result<Selection, Stop>
-    ensures { Reads (spec.field strict (productions.optional spec.begins_set (spec.set strict room) []) tokens.old) result tokens.new }
+    ensures { Reads (spec.field strict
+        (productions.optional spec.begins_set (spec.set strict room) []) tokens.old) result
+        tokens.new }
 {
     let (alias, name) = alias_and_name(alloc, tokens)?;
     let arguments = arguments(alloc, tokens)?;
@@ -129,7 +133,9 @@ fn more_selections(
     room: usize,
     found: Items<Selection>,
 ) -> Result<Items<Selection>, Stop>
-    ensures { Reads (prefixed found (parse.many spec.begins_selection (spec.selection strict (spec.set strict room)) tokens.old)) result tokens.new }
+    ensures { Reads (prefixed found
+        (parse.many spec.begins_selection
+        (spec.selection strict (spec.set strict room)) tokens.old)) result tokens.new }
 {
     let mut found = found;
     for _ in 0..tokens.len() {
@@ -150,7 +156,7 @@ fn braced(alloc: Global, tokens: &mut Tokens<'_, '_>, room: usize) -> Result<Ite
     found.push(selection(alloc, tokens, room)?)?;
     let found = more_selections(alloc, tokens, room, found)?;
     tokens.one(Test::Is(Kind::CloseBrace))?;
-    Ok(found)
+    Ok(fitted(found))
 }
 
 /// A selection set, with room for so many more levels.

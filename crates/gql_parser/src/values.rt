@@ -6,6 +6,7 @@ ghost use Rattle.gql_tokens.specs.KindTests as kinds;
 ghost use Rattle.gql_parser.specs.Reading as spec;
 ghost use Rattle.gql_parser.specs.Reads.{Reads, prefixed};
 
+use crate::lists::fitted;
 use crate::tokens::{Stop, Test, Tokens};
 use flow_base::{Memory, Text};
 use gql_terms::{Refusal, Value};
@@ -77,7 +78,9 @@ pub fn pairs(
     room: usize,
     found: Items<(Text, Value)>,
 ) -> Result<Items<(Text, Value)>, Stop>
-    ensures { Reads (prefixed found (parse.many kinds.is_name (spec.pair (spec.value constant room)) tokens.old)) result tokens.new }
+    ensures { Reads (prefixed found
+        (parse.many kinds.is_name (spec.pair (spec.value constant room)) tokens.old)) result
+        tokens.new }
 {
     let mut found = found;
     for _ in 0..tokens.len() {
@@ -96,7 +99,8 @@ fn values(
     constant: bool,
     room: usize,
 ) -> Result<Items<Value>, Stop>
-    ensures { Reads (parse.many (spec.begins_value constant) (spec.value constant room) tokens.old) result tokens.new }
+    ensures { Reads (parse.many (spec.begins_value constant) (spec.value constant room) tokens.old)
+        result tokens.new }
 {
     let mut found = Items::new(alloc);
     for _ in 0..tokens.len() {
@@ -115,12 +119,13 @@ fn list_of(
     constant: bool,
     room: usize,
 ) -> Result<Value, Stop>
-    ensures { Reads (spec.list_of constant (spec.value constant room) tokens.old) result tokens.new }
+    ensures { Reads (spec.list_of constant (spec.value constant room) tokens.old)
+        result tokens.new }
 {
     tokens.one(Test::Is(Kind::OpenBracket))?;
     let found = values(alloc, tokens, constant, room)?;
     tokens.one(Test::Is(Kind::CloseBracket))?;
-    Ok(Value::List(found))
+    Ok(Value::List(fitted(found)))
 }
 
 #[cycle(value)]
@@ -135,7 +140,7 @@ fn object_of(
     tokens.one(Test::Is(Kind::OpenBrace))?;
     let found = pairs(alloc, tokens, constant, room, Items::new(alloc))?;
     tokens.one(Test::Is(Kind::CloseBrace))?;
-    Ok(Value::Object(found))
+    Ok(Value::Object(fitted(found)))
 }
 
 /// A value, with room for so many more levels.

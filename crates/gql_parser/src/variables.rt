@@ -8,6 +8,7 @@ ghost use Rattle.gql_parser.specs.Reading as spec;
 ghost use Rattle.gql_parser.specs.Reads.{Reads, prefixed};
 
 use crate::directives::{ROOM, directives};
+use crate::lists::fitted;
 use crate::tokens::{Stop, Test, Tokens};
 use crate::types::type_ref;
 use crate::values::value;
@@ -50,7 +51,8 @@ fn more_variables(
     tokens: &mut Tokens<'_, '_>,
     found: Items<VarDef>,
 ) -> Result<Items<VarDef>, Stop>
-    ensures { Reads (prefixed found (parse.many (is k.Dollar) (spec.variable_definition strict) tokens.old)) result tokens.new }
+    ensures { Reads (prefixed found
+        (parse.many (is k.Dollar) (spec.variable_definition strict) tokens.old)) result tokens.new }
 {
     let mut found = found;
     for _ in 0..tokens.len() {
@@ -74,5 +76,5 @@ pub fn variables(alloc: Global, tokens: &mut Tokens<'_, '_>) -> Result<Items<Var
     found.push(variable_definition(alloc, tokens)?)?;
     let found = more_variables(alloc, tokens, found)?;
     tokens.one(Test::Is(Kind::CloseParen))?;
-    Ok(found)
+    Ok(fitted(found))
 }

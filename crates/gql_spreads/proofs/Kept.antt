@@ -1,4 +1,4 @@
--- What each turn of the search leaves, from what the code wrote.
+-- What each step of the search leaves, from what the code wrote.
 use Rattle.std.proofs.Common.{◌≡◌, ℕ, zero, suc, ◌+◌, ◌-◌, ◌<◌, ◌≤◌, Bool, true, false, List, [], ◌∷◌, ◌++◌, length, set, get_or, take, drop, refl, sym, ap, subst, ◌∙◌, ◌⊎◌, inl, inr, arith, append_assoc, length-append}
 use Rattle.std.specs.Prelude.{Contains, All, slice_index_or, sum_by, map, IsTrue, ◌↔◌}
 use Rattle.std.proofs.Math.Seq.{take-append_seam, drop-append_seam, set-append_seam, get_or-append_right}
@@ -10,9 +10,9 @@ use Rattle.gql_spreads.specs.declared.search.Mark.TheVariants as mark
 use Rattle.gql_spreads.specs.declared.search.Group.{Group}
 use Rattle.gql_spreads.specs.declared.search.Search.{Search}
 use Rattle.gql_spreads.specs.Graph.{IsEdge, Reaches, IsGraph, AreCycles}
-use Rattle.gql_spreads.specs.Search.{Part, nodes_of, edges_of, groups_of, group_at, group_on, mark_at, IsDone, StaySeen, done_all, Stands, IsSound, Keeps, turns_for, turns_left, IsTurn, IsBlank, is_cyclic}
+use Rattle.gql_spreads.specs.Search.{Part, nodes_of, edges_of, groups_of, group_at, group_on, mark_at, IsDone, StaySeen, done_all, Stands, IsSound, Keeps, steps_for, steps_left, IsStep, IsBlank, is_cyclic}
 use Rattle.gql_spreads.proofs.Members.{contains_none, edge_within, contains_along, place_contains}
-use Rattle.gql_spreads.proofs.Marks.{fresh_open, fresh_done, set_here, done_seen, set_seen, set_turns, done_turns, seen_within}
+use Rattle.gql_spreads.proofs.Marks.{fresh_open, fresh_done, set_here, done_seen, set_seen, set_left, done_left, seen_within}
 use Rattle.gql_spreads.proofs.Stack.{not_fresh, without, last_source, skipped, circled, joined, joins, entry, entered_marks, enters_from, enters_first}
 use Rattle.gql_spreads.proofs.Leaving.{leaves}
 
@@ -86,7 +86,7 @@ module _ (graph : List (List ℕ)) (s t : Search) (k : Top graph s) where
   -- no edge is left
   pub left : (group : Group) → group ≡ group_on k.gs k.g.cyclic → length s.edges.items ≤ group.edge
       → t.marks.items ≡ done_all (drop group.node s.nodes.items) group.cyclic s.marks.items → t.nodes.items ≡ take group.node s.nodes.items → t.edges.items ≡ s.edges.items
-      → t.groups.items ≡ take (length s.groups.items - 1) s.groups.items → IsTurn graph s t
+      → t.groups.items ≡ take (length s.groups.items - 1) s.groups.items → IsStep graph s t
   left group is over marks_are nodes_are edges_are groups_are = record {
     keeps = record { stack = k.gs; sound = subst (λ (q : List Mark). IsSound graph q k.gs) (sym marks_is) (leaves graph s.marks.items k.g k.gs none k.sound); nodes_is = nodes_are ∙ ap (λ (n : ℕ). take n s.nodes.items) node ∙ ap (take (length (nodes_of k.gs))) k.nodes_is ∙ take-append_seam (nodes_of k.gs) k.g.nodes; edges_is = edges_are ∙ k.edges_is ∙ ap (λ (q : List ℕ). edges_of k.gs ++ q) none ∙ append-nil (edges_of k.gs); groups_is = fewer };
     falls = falls;
@@ -108,11 +108,11 @@ module _ (graph : List (List ℕ)) (s t : Search) (k : Top graph s) where
       fewer : t.groups.items ≡ groups_of k.gs
       fewer = groups_are ∙ front_of s.groups.items (groups_of k.gs) (group_on k.gs k.g.cyclic) (length s.groups.items) k.groups_is refl
 
-      falls : turns_left graph t < turns_left graph s
+      falls : steps_left graph t < steps_left graph s
       falls =
-          let marks : sum_by (turns_for (sum_by length graph)) t.marks.items ≤ sum_by (turns_for (sum_by length graph)) s.marks.items =
-          subst (λ (q : List Mark). sum_by (turns_for (sum_by length graph)) q ≤ sum_by (turns_for (sum_by length graph)) s.marks.items) (sym marks_is)
-          (done_turns (sum_by length graph) k.g.nodes k.g.cyclic s.marks.items
+          let marks : sum_by (steps_for (sum_by length graph)) t.marks.items ≤ sum_by (steps_for (sum_by length graph)) s.marks.items =
+          subst (λ (q : List Mark). sum_by (steps_for (sum_by length graph)) q ≤ sum_by (steps_for (sum_by length graph)) s.marks.items) (sym marks_is)
+          (done_left (sum_by length graph) k.g.nodes k.g.cyclic s.marks.items
           (λ v h. seen_within s.marks.items v (not_fresh graph s.marks.items (k.g ∷ k.gs) k.sound v (Contains-append_right (nodes_of k.gs) k.g.nodes v h)))) in
           let edges : length t.edges.items ≡ length s.edges.items = ap length edges_are in
           let before : length s.groups.items ≡ length (groups_of k.gs) + 1 = ap length k.groups_is ∙ length_one (groups_of k.gs) (group_on k.gs k.g.cyclic) in
@@ -148,11 +148,11 @@ module _ (graph : List (List ℕ)) (s t : Search) (k : Top graph s) where
     edges_fall = ap length p.whole ∙ length_one (edges_of k.gs ++ p.es) p.w
 
     pub skips : (c : Bool) → mark_at s.marks.items p.w ≡ mark.Done c → t.marks.items ≡ s.marks.items → t.nodes.items ≡ s.nodes.items → t.edges.items ≡ take (length s.edges.items - 1) s.edges.items
-        → t.groups.items ≡ s.groups.items → IsTurn graph s t
+        → t.groups.items ≡ s.groups.items → IsStep graph s t
     skips c is marks_are nodes_are edges_are groups_are = record {
       keeps = record { stack = without k.g p.es k.g.cyclic ∷ k.gs; sound = subst (λ (q : List Mark). IsSound graph q (without k.g p.es k.g.cyclic ∷ k.gs)) (sym marks_are) (skipped graph s.marks.items k.g k.gs p.es p.w c p.cut is k.sound); nodes_is = nodes_are ∙ k.nodes_is; edges_is = edges_are ∙ edges_front; groups_is = groups_are ∙ k.groups_is };
       falls = (
-          let marks : sum_by (turns_for (sum_by length graph)) t.marks.items ≡ sum_by (turns_for (sum_by length graph)) s.marks.items = ap (sum_by (turns_for (sum_by length graph))) marks_are in
+          let marks : sum_by (steps_for (sum_by length graph)) t.marks.items ≡ sum_by (steps_for (sum_by length graph)) s.marks.items = ap (sum_by (steps_for (sum_by length graph))) marks_are in
           let edges : length t.edges.items ≡ length (edges_of k.gs ++ p.es) = ap length (edges_are ∙ edges_front) in
           let groups : length t.groups.items ≡ length s.groups.items = ap length groups_are in
           let before : length s.edges.items ≡ length (edges_of k.gs ++ p.es) + 1 = edges_fall in
@@ -163,11 +163,11 @@ module _ (graph : List (List ℕ)) (s t : Search) (k : Top graph s) where
 
     pub circles : (group : Group) (place : ℕ) → group ≡ group_on k.gs k.g.cyclic → mark_at s.marks.items p.w ≡ mark.Open place → group.node ≤ place → t.marks.items ≡ s.marks.items → t.nodes.items ≡ s.nodes.items
         → t.edges.items ≡ take (length s.edges.items - 1) s.edges.items
-        → ((xs : List Group) (g : Group) → s.groups.items ≡ xs ++ (g ∷ []) → t.groups.items ≡ xs ++ (group_at group.node group.edge true ∷ [])) → IsTurn graph s t
+        → ((xs : List Group) (g : Group) → s.groups.items ≡ xs ++ (g ∷ []) → t.groups.items ≡ xs ++ (group_at group.node group.edge true ∷ [])) → IsStep graph s t
     circles group place is opened above marks_are nodes_are edges_are groups_are = record {
       keeps = record { stack = without k.g p.es true ∷ k.gs; sound = subst (λ (q : List Mark). IsSound graph q (without k.g p.es true ∷ k.gs)) (sym marks_are) (circled graph s.marks.items k.g k.gs p.es p.w p.cut in_g k.sound); nodes_is = nodes_are ∙ k.nodes_is; edges_is = edges_are ∙ edges_front; groups_is = now };
       falls = (
-          let marks : sum_by (turns_for (sum_by length graph)) t.marks.items ≡ sum_by (turns_for (sum_by length graph)) s.marks.items = ap (sum_by (turns_for (sum_by length graph))) marks_are in
+          let marks : sum_by (steps_for (sum_by length graph)) t.marks.items ≡ sum_by (steps_for (sum_by length graph)) s.marks.items = ap (sum_by (steps_for (sum_by length graph))) marks_are in
           let edges : length t.edges.items ≡ length (edges_of k.gs ++ p.es) = ap length (edges_are ∙ edges_front) in
           let groups : length t.groups.items ≡ length (groups_of k.gs) + 1 = ap length now ∙ length_one (groups_of k.gs) (group_on k.gs true) in
           let were : length s.groups.items ≡ length (groups_of k.gs) + 1 = ap length k.groups_is ∙ length_one (groups_of k.gs) (group_on k.gs k.g.cyclic) in
@@ -207,7 +207,7 @@ module _ (graph : List (List ℕ)) (s t : Search) (k : Top graph s) where
 
     pub swallows : (group : Group) (place : ℕ) → group ≡ group_on k.gs k.g.cyclic → mark_at s.marks.items p.w ≡ mark.Open place → place < group.node → t.marks.items ≡ s.marks.items → t.nodes.items ≡ s.nodes.items
         → t.edges.items ≡ s.edges.items
-        → ((xs : List Group) (f g : Group) → s.groups.items ≡ (xs ++ (f ∷ [])) ++ (g ∷ []) → t.groups.items ≡ xs ++ (group_at f.node f.edge true ∷ [])) → IsTurn graph s t
+        → ((xs : List Group) (f g : Group) → s.groups.items ≡ (xs ++ (f ∷ [])) ++ (g ∷ []) → t.groups.items ≡ xs ++ (group_at f.node f.edge true ∷ [])) → IsStep graph s t
     swallows group place is opened under marks_are nodes_are edges_are groups_are = go k.gs k.sound k.nodes_is k.edges_is k.groups_is at (below_some place opened (subst (λ (n : ℕ). place < n) at under))
       where
         at : group.node ≡ length (nodes_of k.gs)
@@ -217,7 +217,7 @@ module _ (graph : List (List ℕ)) (s t : Search) (k : Top graph s) where
         in_edges = contains_along (p.es ++ (p.w ∷ [])) k.g.edges p.w (sym p.cut) (Contains-append_right p.es (p.w ∷ []) p.w (0, omega arith, refl))
 
         go : (gs : List Part) → IsSound graph s.marks.items (k.g ∷ gs) → s.nodes.items ≡ nodes_of gs ++ k.g.nodes → s.edges.items ≡ edges_of gs ++ k.g.edges → s.groups.items ≡ groups_of gs ++ (group_on gs k.g.cyclic ∷ [])
-            → group.node ≡ length (nodes_of gs) → Contains (nodes_of gs) p.w → IsTurn graph s t
+            → group.node ≡ length (nodes_of gs) → Contains (nodes_of gs) p.w → IsStep graph s t
         go [] sound n e gr from below = absurd (contains_none p.w below)
         go (f ∷ fs) sound n e gr from below = record {
           keeps = record {
@@ -228,7 +228,7 @@ module _ (graph : List (List ℕ)) (s t : Search) (k : Top graph s) where
             groups_is = now;
           };
           falls = (
-              let marks : sum_by (turns_for (sum_by length graph)) t.marks.items ≡ sum_by (turns_for (sum_by length graph)) s.marks.items = ap (sum_by (turns_for (sum_by length graph))) marks_are in
+              let marks : sum_by (steps_for (sum_by length graph)) t.marks.items ≡ sum_by (steps_for (sum_by length graph)) s.marks.items = ap (sum_by (steps_for (sum_by length graph))) marks_are in
               let edges : length t.edges.items ≡ length s.edges.items = ap length edges_are in
               let groups : length t.groups.items ≡ length (groups_of fs) + 1 = ap length now ∙ length_one (groups_of fs) (group_on fs true) in
               let one : length s.groups.items ≡ length (groups_of (f ∷ fs)) + 1 = ap length gr ∙ length_one (groups_of (f ∷ fs)) (group_on (f ∷ fs) k.g.cyclic) in
@@ -245,7 +245,7 @@ module _ (graph : List (List ℕ)) (s t : Search) (k : Top graph s) where
 
     pub opens : IsGraph graph → mark_at s.marks.items p.w ≡ mark.Fresh → t.marks.items ≡ set s.marks.items p.w (mark.Open (length s.nodes.items)) → t.nodes.items ≡ s.nodes.items ++ (p.w ∷ [])
         → t.edges.items ≡ take (length s.edges.items - 1) s.edges.items ++ slice_index_or graph p.w []
-        → t.groups.items ≡ s.groups.items ++ (group_at (length s.nodes.items) (length (take (length s.edges.items - 1) s.edges.items)) false ∷ []) → IsTurn graph s t
+        → t.groups.items ≡ s.groups.items ++ (group_at (length s.nodes.items) (length (take (length s.edges.items - 1) s.edges.items)) false ∷ []) → IsStep graph s t
     opens graph_is fresh marks_are nodes_are edges_are groups_are = record {
       keeps = record {
         stack = entry graph p.w ∷ (without k.g p.es k.g.cyclic ∷ k.gs);
@@ -270,13 +270,13 @@ module _ (graph : List (List ℕ)) (s t : Search) (k : Top graph s) where
             ∙ ap (λ (q : List ℕ). (groups_of k.gs ++ (group_on k.gs k.g.cyclic ∷ [])) ++ (group_at (length q) (length (take (length s.edges.items - 1) s.edges.items)) false ∷ [])) k.nodes_is
             ∙ ap (λ (q : List ℕ). (groups_of k.gs ++ (group_on k.gs k.g.cyclic ∷ [])) ++ (group_at (length (nodes_of k.gs ++ k.g.nodes)) (length q) false ∷ [])) edges_front
 
-        falls : turns_left graph t < turns_left graph s
+        falls : steps_left graph t < steps_left graph s
         falls =
             let within : p.w < length s.marks.items = subst (λ (n : ℕ). p.w < n) (sym k.sound.counts) is_node in
-            let one : sum_by (turns_for (sum_by length graph)) (set s.marks.items p.w (mark.Open (length s.nodes.items))) + turns_for (sum_by length graph) (mark_at s.marks.items p.w) ≡ sum_by (turns_for (sum_by length graph)) s.marks.items + 0 =
-            set_turns (sum_by length graph) s.marks.items p.w (mark.Open (length s.nodes.items)) within in
-            let same : turns_for (sum_by length graph) (mark_at s.marks.items p.w) ≡ sum_by length graph + 2 = ap (turns_for (sum_by length graph)) fresh in
-            let marks : sum_by (turns_for (sum_by length graph)) t.marks.items ≡ sum_by (turns_for (sum_by length graph)) (set s.marks.items p.w (mark.Open (length s.nodes.items))) = ap (sum_by (turns_for (sum_by length graph))) marks_are in
+            let one : sum_by (steps_for (sum_by length graph)) (set s.marks.items p.w (mark.Open (length s.nodes.items))) + steps_for (sum_by length graph) (mark_at s.marks.items p.w) ≡ sum_by (steps_for (sum_by length graph)) s.marks.items + 0 =
+            set_left (sum_by length graph) s.marks.items p.w (mark.Open (length s.nodes.items)) within in
+            let same : steps_for (sum_by length graph) (mark_at s.marks.items p.w) ≡ sum_by length graph + 2 = ap (steps_for (sum_by length graph)) fresh in
+            let marks : sum_by (steps_for (sum_by length graph)) t.marks.items ≡ sum_by (steps_for (sum_by length graph)) (set s.marks.items p.w (mark.Open (length s.nodes.items))) = ap (sum_by (steps_for (sum_by length graph))) marks_are in
             let edges : length t.edges.items ≡ length (edges_of k.gs ++ p.es) + length (slice_index_or graph p.w []) = ap length (edges_are ∙ ap (λ (q : List ℕ). q ++ slice_index_or graph p.w []) edges_front) ∙ length-append (edges_of k.gs ++ p.es) (slice_index_or graph p.w []) in
             let few : length (slice_index_or graph p.w []) ≤ sum_by length graph = get_or-le-sum_by length graph p.w [] is_node in
             let before : length s.edges.items ≡ length (edges_of k.gs ++ p.es) + 1 = edges_fall in

@@ -4,7 +4,7 @@ pub mod Marks
 pub mod Stack
 pub mod Leaving
 pub mod Kept
-pub mod Turning
+pub mod Stepping
 pub mod Lists
 pub mod Naming
 pub mod Paths

@@ -6,7 +6,7 @@ use Rattle.std.proofs.lemmas.List.{length-set, get_or-set_same, get_or-set_other
 use Rattle.std.proofs.lemmas.List.Sums.{sum_by-set}
 use Rattle.gql_spreads.specs.declared.search.Mark.{Mark}
 use Rattle.gql_spreads.specs.declared.search.Mark.TheVariants as mark
-use Rattle.gql_spreads.specs.Search.{mark_at, IsDone, StaySeen, done_all, turns_for}
+use Rattle.gql_spreads.specs.Search.{mark_at, IsDone, StaySeen, done_all, steps_for}
 use Rattle.gql_spreads.proofs.Members.{contains_none, contains_one, one_contains}
 
 pub fresh_open : (p : ℕ) → mark.Fresh ≡ mark.Open p → ⊥
@@ -101,17 +101,17 @@ pub done_seen : (vs : List ℕ) (c : Bool) (marks : List Mark) → StaySeen mark
 done_seen [] c marks v was now = was now
 done_seen (x ∷ xs) c marks v was now = done_seen xs c (set marks x (mark.Done c)) v (set_seen marks x (mark.Done c) (λ e. fresh_done c (sym e)) v was) now
 
--- ---- the turns that are left
+-- ---- the steps that are left
 
-pub set_turns : (n : ℕ) (marks : List Mark) (v : ℕ) (m : Mark) → v < length marks → sum_by (turns_for n) (set marks v m) + turns_for n (mark_at marks v) ≡ sum_by (turns_for n) marks + turns_for n m
-set_turns n marks v m within = sum_by-set (turns_for n) marks v m mark.Fresh within
+pub set_left : (n : ℕ) (marks : List Mark) (v : ℕ) (m : Mark) → v < length marks → sum_by (steps_for n) (set marks v m) + steps_for n (mark_at marks v) ≡ sum_by (steps_for n) marks + steps_for n m
+set_left n marks v m within = sum_by-set (steps_for n) marks v m mark.Fresh within
 
-pub done_turns : (n : ℕ) (vs : List ℕ) (c : Bool) (marks : List Mark) → ((v : ℕ) → Contains vs v → v < length marks) → sum_by (turns_for n) (done_all vs c marks) ≤ sum_by (turns_for n) marks
-done_turns n [] c marks within = omega arith
-done_turns n (x ∷ xs) c marks within =
-    let one : sum_by (turns_for n) (set marks x (mark.Done c)) + turns_for n (mark_at marks x) ≡ sum_by (turns_for n) marks + 0 = set_turns n marks x (mark.Done c) (within x (contains_first x xs)) in
-    let rest : sum_by (turns_for n) (done_all xs c (set marks x (mark.Done c))) ≤ sum_by (turns_for n) (set marks x (mark.Done c)) =
-    done_turns n xs c (set marks x (mark.Done c)) (λ v h. subst (λ (k : ℕ). v < k) (sym (length-set marks x (mark.Done c))) (within v (contains_rest x xs v h))) in
+pub done_left : (n : ℕ) (vs : List ℕ) (c : Bool) (marks : List Mark) → ((v : ℕ) → Contains vs v → v < length marks) → sum_by (steps_for n) (done_all vs c marks) ≤ sum_by (steps_for n) marks
+done_left n [] c marks within = omega arith
+done_left n (x ∷ xs) c marks within =
+    let one : sum_by (steps_for n) (set marks x (mark.Done c)) + steps_for n (mark_at marks x) ≡ sum_by (steps_for n) marks + 0 = set_left n marks x (mark.Done c) (within x (contains_first x xs)) in
+    let rest : sum_by (steps_for n) (done_all xs c (set marks x (mark.Done c))) ≤ sum_by (steps_for n) (set marks x (mark.Done c)) =
+    done_left n xs c (set marks x (mark.Done c)) (λ v h. subst (λ (k : ℕ). v < k) (sym (length-set marks x (mark.Done c))) (within v (contains_rest x xs v h))) in
     omega arith
 
 -- ---- loops

@@ -95,13 +95,13 @@ pub record Keeps (graph : List (List ℕ)) (s : Search) : Type 0 where
   pub edges_is : s.edges.items ≡ edges_of stack
   pub groups_is : s.groups.items ≡ groups_of stack
 
--- how many turns the search may still take: a fresh node may bring as many edges as there are, itself and its group
-abbrev pub turns_for : ℕ → Mark → ℕ
-turns_for edges mark.Fresh = edges + 2
-turns_for edges _ = 0
+-- how many steps the search may still take: a fresh node may bring as many edges as there are, itself and its group
+abbrev pub steps_for : ℕ → Mark → ℕ
+steps_for edges mark.Fresh = edges + 2
+steps_for edges _ = 0
 
-abbrev pub turns_left : List (List ℕ) → Search → ℕ
-turns_left graph s = sum_by (turns_for (sum_by length graph)) s.marks.items + length s.edges.items + length s.groups.items
+abbrev pub steps_left : List (List ℕ) → Search → ℕ
+steps_left graph s = sum_by (steps_for (sum_by length graph)) s.marks.items + length s.edges.items + length s.groups.items
 
 -- nothing is known of so many nodes
 pub record IsBlank (count : ℕ) (s : Search) : Type 0 where
@@ -111,10 +111,10 @@ pub record IsBlank (count : ℕ) (s : Search) : Type 0 where
   pub edges : s.edges.items ≡ []
   pub groups : s.groups.items ≡ []
 
--- one turn of the search
-pub record IsTurn (graph : List (List ℕ)) (s t : Search) : Type 0 where
+-- one step of the search
+pub record IsStep (graph : List (List ℕ)) (s t : Search) : Type 0 where
   pub keeps : Keeps graph t
-  pub falls : turns_left graph t < turns_left graph s
+  pub falls : steps_left graph t < steps_left graph s
   pub seen : StaySeen s.marks.items t.marks.items
 
 -- no node is open, and this one is done

@@ -3,7 +3,7 @@ ghost use Rattle.gql_spreads.specs.Graph.{IsGraph, AreCycles};
 ghost use Rattle.gql_spreads.specs.Search as spec;
 
 use crate::search::Mark;
-use crate::turns::{blank, explore};
+use crate::steps::{blank, explore};
 use flow_base::Memory;
 use std::alloc::Global;
 use tree_items::Items;

@@ -9,9 +9,9 @@ mod cycles;
 mod first;
 mod numbers;
 mod search;
+mod steps;
 mod targets;
 #[cfg(test)]
 mod tests;
-mod turns;
 
 pub use first::bad_spread;

@@ -1,6 +1,6 @@
 -- The answer from the tokens of a text, by how the text ends.
 use Rattle.std.proofs.Common.{◌≡◌, ℕ, zero, suc, ◌+◌, ◌-◌, ◌<◌, ◌≤◌, List, [], ◌∷◌, ◌++◌, length, Result, Ok, Err, refl, sym, ap, subst, ◌∙◌, arith, append_assoc, length-append}
-use Rattle.std.specs.Prelude.{slice_index, IfOk, IfErr}
+use Rattle.std.specs.Prelude.{slice_index, IfErr}
 use Rattle.std.proofs.lemmas.List.{append-nil}
 use Rattle.token_read.specs.Exact.{AreReal}
 use Rattle.token_read.specs.Texts.{Settled}
@@ -120,10 +120,6 @@ fault_refuses text (faults.Unexpected place) h = λ d is. h.0 (viable text d is)
 fault_refuses text (faults.Deep place) h = λ d is. h.0 (viable text d is)
 
 -- ---- the answer, clause by clause
-
-pub judged_document : (text : List ℕ) (r : Result Document GqlFault) → Judged text r → IfOk r (λ d. IsText d text)
-judged_document text (Ok d) h = h
-judged_document text (Err fault) h = tt
 
 pub judged_refuses : (text : List ℕ) (r : Result Document GqlFault) → Judged text r → IfErr r (λ fault. Refuses text fault)
 judged_refuses text (Ok d) h = tt

@@ -21,7 +21,7 @@ pub enum Reading {
     Memory,
 }
 
-fn read(alloc: Global, tokens: &Vec<Token<'_>>) -> Reading
+pub fn read(alloc: Global, tokens: &Vec<Token<'_>>) -> Reading
     ensures { IsReading (parser.all strict tokens.now.items) result }
 {
     let mut left = Tokens::new(tokens.as_slice());
@@ -40,7 +40,8 @@ fn count(tokens: &Vec<Token<'_>>) -> usize
 
 /// The place of the token from which on so many are left.
 fn place_of(tokens: &Vec<Token<'_>>, places: &Vec<usize>, left: usize) -> usize
-    requires { (left ≤ length tokens.now.items) × (length tokens.now.items - left < length places.now.items) }
+    requires { (left ≤ length tokens.now.items)
+        × (length tokens.now.items - left < length places.now.items) }
     ensures { result ≡ slice_index places.now.items (length tokens.now.items - left) }
 {
     let index = count(tokens) - left;

@@ -18,7 +18,8 @@ loop-preserved c = rw c.in_ok-push.ensures.ok
 
 pub returns-then-not-sees : goal.returns-then-not-sees
 unfolding directives
-returns-then-not-sees c = items_end (is k.At) (directive strict) c.loop.found c.len-end.result c.loop.counter c.loop.tokens _ (sym c.sees.ensures ∙ c.if-not-sees.true) c.loop.invariant
+returns-then-not-sees c = rw c.fitted.ensures
+    (items_end (is k.At) (directive strict) c.loop.found c.len-end.result c.loop.counter c.loop.tokens _ (sym c.sees.ensures ∙ c.if-not-sees.true) c.loop.invariant)
 
 pub returns : goal.returns
 unfolding directives

@@ -1,6 +1,6 @@
 use Rattle.std.proofs.Common.{arith}
 use Rattle.gql_spreads.proofs.Kept.{starts}
-use Rattle.gql_spreads.proofs.Turning.{answered}
+use Rattle.gql_spreads.proofs.Stepping.{answered}
 use Rattle.gql_spreads.proofs.cycles.nodes_on_cycles.Goals as goal
 
 pub loop-root-init : goal.loop-root-init

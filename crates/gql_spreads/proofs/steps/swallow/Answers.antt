@@ -2,7 +2,7 @@ use Rattle.std.proofs.Common.{◌≡◌, ◌+◌, ◌-◌, ◌++◌, ◌∷◌, 
 use Rattle.gql_spreads.specs.declared.search.Group.{Group}
 use Rattle.gql_spreads.specs.Search.{group_at}
 use Rattle.gql_spreads.proofs.Kept.{length_one, set_last, front_of, last_at}
-use Rattle.gql_spreads.proofs.turns.swallow.Goals as goal
+use Rattle.gql_spreads.proofs.steps.swallow.Goals as goal
 
 pub returns-clause-groups : goal.returns-clause-groups
 returns-clause-groups c = λ xs f g is.

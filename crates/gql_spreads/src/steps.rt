@@ -2,7 +2,7 @@ ghost use Rattle.std.specs.Prelude.{◌≡◌, ℕ, ◌+◌, ◌-◌, ◌<◌, �
 ghost use Rattle.gql_spreads.specs.declared.search.Mark.TheVariants as mark;
 ghost use Rattle.gql_spreads.specs.declared.search.Group.{Group};
 ghost use Rattle.gql_spreads.specs.Graph.{IsGraph};
-ghost use Rattle.gql_spreads.specs.Search.{done_all, group_at, Keeps, IsBlank, IsTurn, IsExplored};
+ghost use Rattle.gql_spreads.specs.Search.{done_all, group_at, Keeps, IsBlank, IsStep, IsExplored};
 
 use crate::search::{Group, Mark, Search};
 use flow_base::Memory;
@@ -38,17 +38,17 @@ pub fn explore(search: &mut Search, graph: &[Items<usize>], root: usize) -> Resu
         enter(search, graph, root)?;
     }
     while !search.groups.is_empty() {
-        turn(search, graph)?;
+        step(search, graph)?;
     }
     Ok(())
 }
 
 /// Follows the last edge of the last group, or leaves the group where it has none left.
-fn turn(search: &mut Search, graph: &[Items<usize>]) -> Result<(), Memory>
+fn step(search: &mut Search, graph: &[Items<usize>]) -> Result<(), Memory>
     requires some { 0 < vec_len search.old.groups }
     requires graph { IsGraph graph.now }
     requires keeps { Keeps graph.now search.old }
-    ensures { OnOk result (IsTurn graph.now search.old search.new) }
+    ensures { OnOk result (IsStep graph.now search.old search.new) }
 {
     let group = search.groups[search.groups.len() - 1];
     if search.edges.len() <= group.edge {

@@ -1,6 +1,6 @@
 use Rattle.std.proofs.Common.{◌≡◌, drop, vec_len}
 use Rattle.gql_spreads.specs.Search.{done_all}
-use Rattle.gql_spreads.proofs.turns.finish.Given as goal
+use Rattle.gql_spreads.proofs.steps.finish.Given as goal
 
 abbrev pub invariant-loop-node : goal.invariant-loop-node
 invariant-loop-node l =

@@ -1,6 +1,6 @@
-use Rattle.gql_spreads.proofs.Turning.{root_fresh, root_seen, root_along}
-use Rattle.gql_spreads.proofs.turns.explore.Goals as goal
-use Rattle.gql_spreads.proofs.turns.explore.Goals.{in-Fresh+in_ok-enter, in_default}
+use Rattle.gql_spreads.proofs.Stepping.{root_fresh, root_seen, root_along}
+use Rattle.gql_spreads.proofs.steps.explore.Goals as goal
+use Rattle.gql_spreads.proofs.steps.explore.Goals.{in-Fresh+in_ok-enter, in_default}
 
 pub loop-search-init : goal.loop-search-init
 loop-search-init c = elim c.match-index.branch [

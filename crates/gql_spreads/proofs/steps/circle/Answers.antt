@@ -2,7 +2,7 @@ use Rattle.std.proofs.Common.{◌≡◌, ◌+◌, ◌-◌, length, ap, ◌∙◌
 use Rattle.gql_spreads.specs.declared.search.Group.{Group}
 use Rattle.gql_spreads.specs.Search.{group_at}
 use Rattle.gql_spreads.proofs.Kept.{length_one, set_last}
-use Rattle.gql_spreads.proofs.turns.circle.Goals as goal
+use Rattle.gql_spreads.proofs.steps.circle.Goals as goal
 
 pub returns-clause-groups : goal.returns-clause-groups
 returns-clause-groups c = λ xs g is.

@@ -1,4 +1,4 @@
--- The facts at each branch of a turn, from what the code read.
+-- The facts at each branch of a step, from what the code read.
 use Rattle.std.proofs.Common.{◌≡◌, ℕ, zero, suc, ◌+◌, ◌-◌, ◌<◌, ◌≤◌, Bool, true, false, List, [], ◌∷◌, ◌++◌, length, set, get_or, take, drop, refl, sym, ap, subst, ◌∙◌, ◌⊎◌, inl, inr, arith, vec_len}
 use Rattle.std.specs.Prelude.{All, slice_index_or, map}
 use Rattle.std.proofs.lemmas.Bool.{cases_lt}
@@ -8,7 +8,7 @@ use Rattle.gql_spreads.specs.declared.search.Mark.TheVariants as mark
 use Rattle.gql_spreads.specs.declared.search.Group.{Group}
 use Rattle.gql_spreads.specs.declared.search.Search.{Search}
 use Rattle.gql_spreads.specs.Graph.{IsGraph, AreCycles}
-use Rattle.gql_spreads.specs.Search.{group_at, group_on, mark_at, StaySeen, done_all, Keeps, IsTurn, is_cyclic}
+use Rattle.gql_spreads.specs.Search.{group_at, group_on, mark_at, StaySeen, done_all, Keeps, IsStep, is_cyclic}
 use Rattle.gql_spreads.proofs.Marks.{set_seen, fresh_open}
 use Rattle.gql_spreads.proofs.Kept.{Top, top, group_is, own_marked, own_begins, left, Pending, pending, pending_is, pending_node, skips, circles, two_groups, swallows, opens, last_at, begins, begun_seen, answers}
 
@@ -28,9 +28,9 @@ module _ (graph : List (List ℕ)) (s : Search) (group : Group) (n : ℕ) (some 
   pub leave_marked : All (λ v. v < vec_len s.marks) (drop group.node s.nodes.items)
   leave_marked = subst (λ (m : ℕ). All (λ v. v < m) (drop group.node s.nodes.items)) (sym s.marks.ok.0) (own_marked graph s s k group is)
 
-  pub leave_turn : (t : Search) → vec_len s.edges ≤ group.edge → t.marks.items ≡ done_all (drop group.node s.nodes.items) group.cyclic s.marks.items → t.nodes.items ≡ take group.node s.nodes.items
-      → t.edges.items ≡ s.edges.items → t.groups.items ≡ take (vec_len s.groups - 1) s.groups.items → IsTurn graph s t
-  leave_turn t over marks nodes edges groups = left graph s t k group is (subst (λ (m : ℕ). m ≤ group.edge) s.edges.ok.0 over) marks nodes edges (groups ∙ ap (λ (m : ℕ). take (m - 1) s.groups.items) s.groups.ok.0)
+  pub leave_step : (t : Search) → vec_len s.edges ≤ group.edge → t.marks.items ≡ done_all (drop group.node s.nodes.items) group.cyclic s.marks.items → t.nodes.items ≡ take group.node s.nodes.items
+      → t.edges.items ≡ s.edges.items → t.groups.items ≡ take (vec_len s.groups - 1) s.groups.items → IsStep graph s t
+  leave_step t over marks nodes edges groups = left graph s t k group is (subst (λ (m : ℕ). m ≤ group.edge) s.edges.ok.0 over) marks nodes edges (groups ∙ ap (λ (m : ℕ). take (m - 1) s.groups.items) s.groups.ok.0)
 
   module _ (node m : ℕ) (under : group.edge < vec_len s.edges) (edge_count : m ≡ vec_len s.edges) (last : node ≡ get_or s.edges.items (m - 1) node) where
     p : Pending graph s s k
@@ -54,32 +54,32 @@ module _ (graph : List (List ℕ)) (s : Search) (group : Group) (n : ℕ) (some 
     pub swallow_two : (place : ℕ) → place < group.node → 1 < vec_len s.groups
     swallow_two place below = subst (λ (e : ℕ). 1 < e) (sym s.groups.ok.0) (two_groups graph s s k p group place is below)
 
-    pub swallow_turn : (t : Search) (x : Mark) (place : ℕ) → IsGraph graph → x ≡ get_or s.marks.items node x → x ≡ mark.Open place → place < group.node → t.marks.items ≡ s.marks.items → t.nodes.items ≡ s.nodes.items → t.edges.items ≡ s.edges.items
-        → ((xs : List Group) (f g : Group) → s.groups.items ≡ (xs ++ (f ∷ [])) ++ (g ∷ []) → t.groups.items ≡ xs ++ (group_at f.node f.edge true ∷ [])) → IsTurn graph s t
-    swallow_turn t x place nodes_ok at opened below marks nodes edges groups = swallows graph s t k (same t) group place is (marked x (mark.Open place) nodes_ok at opened) below marks nodes edges groups
+    pub swallow_step : (t : Search) (x : Mark) (place : ℕ) → IsGraph graph → x ≡ get_or s.marks.items node x → x ≡ mark.Open place → place < group.node → t.marks.items ≡ s.marks.items → t.nodes.items ≡ s.nodes.items → t.edges.items ≡ s.edges.items
+        → ((xs : List Group) (f g : Group) → s.groups.items ≡ (xs ++ (f ∷ [])) ++ (g ∷ []) → t.groups.items ≡ xs ++ (group_at f.node f.edge true ∷ [])) → IsStep graph s t
+    swallow_step t x place nodes_ok at opened below marks nodes edges groups = swallows graph s t k (same t) group place is (marked x (mark.Open place) nodes_ok at opened) below marks nodes edges groups
       where
         same : (t : Search) → Pending graph s t k
         same t = record { es = p.es; w = p.w; cut = p.cut; whole = p.whole }
 
-    pub circle_turn : (t : Search) (x : Mark) (place : ℕ) → IsGraph graph → x ≡ get_or s.marks.items node x → x ≡ mark.Open place → group.node ≤ place → t.marks.items ≡ s.marks.items → t.nodes.items ≡ s.nodes.items
+    pub circle_step : (t : Search) (x : Mark) (place : ℕ) → IsGraph graph → x ≡ get_or s.marks.items node x → x ≡ mark.Open place → group.node ≤ place → t.marks.items ≡ s.marks.items → t.nodes.items ≡ s.nodes.items
         → t.edges.items ≡ take (vec_len s.edges - 1) s.edges.items
-        → ((xs : List Group) (g : Group) → s.groups.items ≡ xs ++ (g ∷ []) → t.groups.items ≡ xs ++ (group_at group.node group.edge true ∷ [])) → IsTurn graph s t
-    circle_turn t x place nodes_ok at opened above marks nodes edges groups = circles graph s t k (same t) group place is (marked x (mark.Open place) nodes_ok at opened) above marks nodes (edges ∙ ap (λ (e : ℕ). take (e - 1) s.edges.items) s.edges.ok.0) groups
+        → ((xs : List Group) (g : Group) → s.groups.items ≡ xs ++ (g ∷ []) → t.groups.items ≡ xs ++ (group_at group.node group.edge true ∷ [])) → IsStep graph s t
+    circle_step t x place nodes_ok at opened above marks nodes edges groups = circles graph s t k (same t) group place is (marked x (mark.Open place) nodes_ok at opened) above marks nodes (edges ∙ ap (λ (e : ℕ). take (e - 1) s.edges.items) s.edges.ok.0) groups
       where
         same : (t : Search) → Pending graph s t k
         same t = record { es = p.es; w = p.w; cut = p.cut; whole = p.whole }
 
-    pub skip_turn : (t : Search) (x : Mark) (c : Bool) → IsGraph graph → x ≡ get_or s.marks.items node x → x ≡ mark.Done c → t.marks.items ≡ s.marks.items → t.nodes.items ≡ s.nodes.items
-        → t.edges.items ≡ take (vec_len s.edges - 1) s.edges.items → t.groups.items ≡ s.groups.items → IsTurn graph s t
-    skip_turn t x c nodes_ok at done marks nodes edges groups = skips graph s t k (same t) c (marked x (mark.Done c) nodes_ok at done) marks nodes (edges ∙ ap (λ (e : ℕ). take (e - 1) s.edges.items) s.edges.ok.0) groups
+    pub skip_step : (t : Search) (x : Mark) (c : Bool) → IsGraph graph → x ≡ get_or s.marks.items node x → x ≡ mark.Done c → t.marks.items ≡ s.marks.items → t.nodes.items ≡ s.nodes.items
+        → t.edges.items ≡ take (vec_len s.edges - 1) s.edges.items → t.groups.items ≡ s.groups.items → IsStep graph s t
+    skip_step t x c nodes_ok at done marks nodes edges groups = skips graph s t k (same t) c (marked x (mark.Done c) nodes_ok at done) marks nodes (edges ∙ ap (λ (e : ℕ). take (e - 1) s.edges.items) s.edges.ok.0) groups
       where
         same : (t : Search) → Pending graph s t k
         same t = record { es = p.es; w = p.w; cut = p.cut; whole = p.whole }
 
-    pub enter_turn : (t : Search) (x : Mark) (popped : List ℕ) (left : ℕ) → IsGraph graph → x ≡ get_or s.marks.items node x → x ≡ mark.Fresh → popped ≡ take (vec_len s.edges - 1) s.edges.items → left ≡ length popped
+    pub enter_step : (t : Search) (x : Mark) (popped : List ℕ) (left : ℕ) → IsGraph graph → x ≡ get_or s.marks.items node x → x ≡ mark.Fresh → popped ≡ take (vec_len s.edges - 1) s.edges.items → left ≡ length popped
         → t.marks.items ≡ set s.marks.items node (mark.Open (vec_len s.nodes)) → t.nodes.items ≡ s.nodes.items ++ (node ∷ []) → t.edges.items ≡ popped ++ slice_index_or graph node []
-        → t.groups.items ≡ s.groups.items ++ (group_at (vec_len s.nodes) left false ∷ []) → IsTurn graph s t
-    enter_turn t x popped left nodes_ok at fresh cut count marks nodes edges groups = opens graph s t k (same t) nodes_ok (marked x mark.Fresh nodes_ok at fresh)
+        → t.groups.items ≡ s.groups.items ++ (group_at (vec_len s.nodes) left false ∷ []) → IsStep graph s t
+    enter_step t x popped left nodes_ok at fresh cut count marks nodes edges groups = opens graph s t k (same t) nodes_ok (marked x mark.Fresh nodes_ok at fresh)
         (marks ∙ ap (λ (v : ℕ). set s.marks.items v (mark.Open (vec_len s.nodes))) node_is ∙ ap (λ (e : ℕ). set s.marks.items p.w (mark.Open e)) s.nodes.ok.0)
         (nodes ∙ ap (λ (v : ℕ). s.nodes.items ++ (v ∷ [])) node_is)
         (edges ∙ ap (λ (v : ℕ). popped ++ slice_index_or graph v []) node_is ∙ ap (λ (q : List ℕ). q ++ slice_index_or graph p.w []) front)
