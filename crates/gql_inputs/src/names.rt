@@ -21,7 +21,7 @@ pub fn note(names: &mut IndexSet<Text>, name: &Text) -> Result<bool, Memory>
 }
 
 /// The place of the first member of each name.
-fn places_of(alloc: Global, members: &[(Text, Json)]) -> Result<IndexMap<Text, usize>, Memory>
+pub fn places_of(alloc: Global, members: &[(Text, Json)]) -> Result<IndexMap<Text, usize>, Memory>
     ensures { IfOk result (λ p. Places p members.now) }
 {
     let mut places = IndexMap::with_capacity(alloc, members.len())?;

@@ -65,7 +65,7 @@ fn schema(alloc: Global) -> Result<Schema, Memory> {
     define(&mut types, Text::of(alloc, "Box")?, boxes)?;
     let keys = input(alloc, "id", type_of(alloc, "Int!")?, None)?;
     define(&mut types, Text::of(alloc, "Key")?, keys)?;
-    Ok(Schema::of(types))
+    Schema::of(alloc, types)
 }
 
 // The definition of the variable `n`.

@@ -3,38 +3,33 @@ ghost use Rattle.std.specs.Option.{option_copied};
 ghost use Rattle.json_paths.specs.declared.path.Spot as path;
 ghost use Rattle.json_paths.specs.declared.path.Spot.TheVariants as spot;
 ghost use Rattle.gql_types.specs.Schemas as schemas;
+ghost use Rattle.gql_types.specs.declared.definition.InputField.{InputField};
 ghost use Rattle.gql_inputs.specs.Coercing as spec;
 ghost use Rattle.gql_inputs.specs.Coercing.{Coerces, Field, Fields, InputIs, ListIs, NamedIs, Makes, Stops, Refuses, fine};
+ghost use Rattle.gql_inputs.specs.Noted.{Places};
 
 use crate::constant::constant;
 use crate::fault::Refusal;
+use crate::names::places_of;
 use flow_base::Text;
 use gql_leaves::{fits, is_required};
 use gql_terms::TypeRef;
 use gql_types::{InputField, Schema};
+use indexmap::IndexMap;
 use json_paths::{Spot, copy_spots, enter, leave};
 use json_value::{Json, copy};
 use std::alloc::Global;
 use tree_items::Items;
 
-fn has_field(fields: &[InputField], name: &Text) -> bool
-    ensures { result ≡ spec.has_field fields.now name.now }
-{
-    for i in 0..fields.len() {
-        if fields[i].name.as_str() == name.as_str() {
-            return true;
-        }
-    }
-    false
-}
-
-/// The first name that is no field of the type. Takes time in the number of members times that of the fields.
-fn unknown_name<'a>(fields: &[InputField], members: &'a [(Text, Json)]) -> Option<&'a Text>
-    ensures { option_copied result ≡ spec.unknown_name fields.now members.now }
+/// The first name that is no field of the input type.
+fn unknown_name<'a>(schema: &Schema, input: &Text, members: &'a [(Text, Json)]) -> Option<&'a Text>
+    ensures { (fields : List InputField) → schemas.inputs schema.now input.now ≡ Some fields →
+        option_copied result ≡ spec.unknown_name fields members.now }
 {
     for i in 0..members.len() {
-        if !has_field(fields, &members[i].0) {
-            return Some(&members[i].0);
+        let name = &members[i].0;
+        if !schema.has_input(input, name) {
+            return Some(name);
         }
     }
     None
@@ -171,8 +166,10 @@ fn coerce_part(
     spot: Spot,
     spots: &mut Vec<Spot>,
 ) -> Result<Json, Refusal>
-    ensures fine { Makes result (Coerces schema.now of.now value.now (spots.old.items ++ (spot ∷ []))) }
-    ensures refused { Stops result (Coerces schema.now of.now value.now (spots.old.items ++ (spot ∷ []))) }
+    ensures fine { Makes result (Coerces schema.now of.now value.now
+        (spots.old.items ++ (spot ∷ []))) }
+    ensures refused { Stops result (Coerces schema.now of.now value.now
+        (spots.old.items ++ (spot ∷ []))) }
     ensures back { OnOk result (spots.new.items ≡ spots.old.items) }
 {
     enter(spots, spot)?;
@@ -232,8 +229,9 @@ fn coerce_input(
     ensures refused { Stops result (InputIs schema.now members.now spots.old.items fields.now) }
     ensures back { OnOk result (spots.new.items ≡ spots.old.items) }
 {
-    let made = coerce_fields(alloc, schema, members, name, fields, spots)?;
-    match unknown_name(fields, members) {
+    let places = places_of(alloc, members)?;
+    let made = coerce_fields(alloc, schema, members, &places, name, fields, spots)?;
+    match unknown_name(schema, name, members) {
         Some(other) => {
             enter(spots, Spot::Name(other.copy()?))?;
             Err(refusal(alloc, spots.as_slice()))
@@ -248,11 +246,13 @@ fn coerce_fields(
     alloc: Global,
     schema: &Schema,
     members: &[(Text, Json)],
+    places: &IndexMap<Text, usize>,
     name: &Text,
     fields: &[InputField],
     spots: &mut Vec<Spot>,
 ) -> Result<Items<(Text, Json)>, Refusal>
-    requires { schemas.inputs schema.now name.now ≡ Some fields.now }
+    requires places { Places places.now members.now }
+    requires fields { schemas.inputs schema.now name.now ≡ Some fields.now }
     ensures fine { Makes result (Fields schema.now members.now spots.old.items fields.now) }
     ensures refused { Stops result (Fields schema.now members.now spots.old.items fields.now) }
     ensures back { OnOk result (spots.new.items ≡ spots.old.items) }
@@ -260,7 +260,7 @@ fn coerce_fields(
     let mut made: Items<(Text, Json)> = Items::new(alloc);
     for i in 0..fields.len() {
         let field = &fields[i];
-        match coerce_field(alloc, schema, members, field, spots)? {
+        match coerce_field(alloc, schema, members, places, field, spots)? {
             Some(value) => made.push((field.name.copy()?, value))?,
             None => {}
         }
@@ -274,14 +274,16 @@ fn coerce_field(
     alloc: Global,
     schema: &Schema,
     members: &[(Text, Json)],
+    places: &IndexMap<Text, usize>,
     field: &InputField,
     spots: &mut Vec<Spot>,
 ) -> Result<Option<Json>, Refusal>
+    requires { Places places.now members.now }
     ensures fine { Makes result (Field schema.now members.now spots.old.items field.now) }
     ensures refused { Stops result (Field schema.now members.now spots.old.items field.now) }
     ensures back { OnOk result (spots.new.items ≡ spots.old.items) }
 {
-    let at = place_of(members, &field.name);
+    let at = place_of(places, members, &field.name);
     if at < members.len() {
         let spot = Spot::Name(field.name.copy()?);
         let made = coerce_part(alloc, schema, &members[at].1, &field.of, spot, spots)?;
@@ -300,13 +302,12 @@ fn coerce_field(
 }
 
 /// The place of the first member with this name, or the number of members.
-fn place_of(members: &[(Text, Json)], name: &Text) -> usize
+fn place_of(places: &IndexMap<Text, usize>, members: &[(Text, Json)], name: &Text) -> usize
+    requires { Places places.now members.now }
     ensures { result ≡ spec.place_of name.now members.now }
 {
-    for i in 0..members.len() {
-        if members[i].0.as_str() == name.as_str() {
-            return i;
-        }
+    match places.get(name) {
+        Some(place) => *place,
+        None => members.len(),
     }
-    members.len()
 }

@@ -82,8 +82,10 @@ fn coerce_given(
     definition: &VarDef,
     value: &Json,
 ) -> Result<Json, VarFault>
-    ensures value { IfOk result (λ w. WhenGiven schema.now definition.now value.now (known (Some w))) }
-    ensures fault { IfErr result (λ e. Faults e (WhenGiven schema.now definition.now value.now (faulty e))) }
+    ensures value { IfOk result (λ w. WhenGiven schema.now definition.now value.now
+        (known (Some w))) }
+    ensures fault { IfErr result
+        (λ e. Faults e (WhenGiven schema.now definition.now value.now (faulty e))) }
 {
     if is_null(value) {
         if is_required(&definition.of) {
@@ -105,8 +107,10 @@ fn coerce_variable(
     definition: &VarDef,
     given: &Given<'_>,
 ) -> Result<Option<Json>, VarFault>
-    ensures value { IfOk result (λ w. Variable schema.now given.now.members.now definition.now (known w)) }
-    ensures fault { IfErr result (λ e. IsFaultOf schema.now given.now.members.now definition.now e) }
+    ensures value { IfOk result (λ w. Variable schema.now given.now.members.now definition.now
+        (known w)) }
+    ensures fault { IfErr result
+        (λ e. IsFaultOf schema.now given.now.members.now definition.now e) }
 {
     match given.get(&definition.name) {
         Some(value) => match coerce_given(alloc, schema, definition, value) {
@@ -125,8 +129,10 @@ fn coerce_next(
     given: &Given<'_>,
     made: Items<(Text, Json)>,
 ) -> Result<Items<(Text, Json)>, VarFault>
-    ensures value { IfOk result (λ ms. Next schema.now given.now.members.now definition.now made ms) }
-    ensures fault { IfErr result (λ e. IsFaultOf schema.now given.now.members.now definition.now e) }
+    ensures value { IfOk result (λ ms. Next schema.now given.now.members.now definition.now made
+        ms) }
+    ensures fault { IfErr result
+        (λ e. IsFaultOf schema.now given.now.members.now definition.now e) }
 {
     let mut made = made;
     match coerce_variable(alloc, schema, definition, given) {
@@ -166,7 +172,7 @@ fn coerce_all(
 }
 
 /// The object of the values of an operation's variables, in the order of their definitions; or the first variable that
-/// is refused. Takes time in the text of the variables and values, times the number of fields of an input type.
+/// is refused. Takes time in the text of the variables and values and in the fields of each input type that a value is of.
 pub fn coerce(
     alloc: Global,
     schema: &Schema,

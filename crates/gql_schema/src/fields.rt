@@ -56,7 +56,8 @@ fn more_inputs(
     left: &mut Left<'_, '_>,
     found: Items<InputField>,
 ) -> Result<Items<InputField>, Stop>
-    ensures { Reads (prefixed found (parse.many spec.begins_item spec.input left.old)) result left.new }
+    ensures { Reads (prefixed found (parse.many spec.begins_item spec.input left.old)) result
+        left.new }
 {
     let mut found = found;
     for _ in 0..left.len() {
@@ -119,7 +120,8 @@ fn more_fields(
     left: &mut Left<'_, '_>,
     found: Items<Field>,
 ) -> Result<Items<Field>, Stop>
-    ensures { Reads (prefixed found (parse.many spec.begins_item spec.field left.old)) result left.new }
+    ensures { Reads (prefixed found (parse.many spec.begins_item spec.field left.old)) result
+        left.new }
 {
     let mut found = found;
     for _ in 0..left.len() {
@@ -159,7 +161,8 @@ fn more_values(
     left: &mut Left<'_, '_>,
     found: Items<Text>,
 ) -> Result<Items<Text>, Stop>
-    ensures { Reads (prefixed found (parse.many spec.begins_value spec.value left.old)) result left.new }
+    ensures { Reads (prefixed found (parse.many spec.begins_value spec.value left.old)) result
+        left.new }
 {
     let mut found = found;
     for _ in 0..left.len() {

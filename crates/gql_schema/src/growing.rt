@@ -15,7 +15,8 @@ fn begins(front: &[u8], word: &[u8]) -> bool
 }
 
 fn add<'a>(found: &mut Vec<Token<'a>>, kind: Kind, text: &'a str) -> Result<(), Memory>
-    ensures { IfOk result (λ _. found.new.items ≡ found.old.items ++ spec.spelled kind text.now ∷ []) }
+    ensures { IfOk result (λ _. found.new.items ≡ found.old.items
+        ++ spec.spelled kind text.now ∷ []) }
 {
     found.push(Token::new(kind, text))?;
     Ok(())
@@ -28,7 +29,8 @@ fn add_word<'a>(
     word: &'a str,
     kind: Kind,
 ) -> Result<(), Memory>
-    ensures { IfOk result (λ _. found.new.items ≡ found.old.items ++ spec.word_if text.now word.now kind) }
+    ensures { IfOk result (λ _. found.new.items ≡ found.old.items
+        ++ spec.word_if text.now word.now kind) }
 {
     if begins(text, word.as_bytes()) {
         add(found, kind, word)?;

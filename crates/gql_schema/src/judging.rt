@@ -59,7 +59,8 @@ fn consumes_with<'a>(
     tokens: &mut Vec<Token<'a>>,
     next: &Token<'a>,
 ) -> Result<bool, Memory>
-    ensures tells { IfOk result (λ b. Tells b (judging.Begins (tokens.old.items ++ next.now ∷ []))) }
+    ensures tells { IfOk result
+        (λ b. Tells b (judging.Begins (tokens.old.items ++ next.now ∷ []))) }
     ensures same { IfOk result (λ b. tokens.new.items ≡ tokens.old.items) }
 {
     tokens.push(next.copy())?;
@@ -94,7 +95,8 @@ fn scanned(rest: &[u8]) -> Scan
 /// A token for each mark that the last token may grow to, which begins the rest of the text.
 fn last_next<'a>(alloc: Global, rest: &[u8], last: Token<'a>) -> Result<Vec<Token<'a>>, Memory>
     requires { 0 < length rest.now }
-    ensures { IfOk result (λ next. next.items ≡ judging.last_next (judging.scanned rest.now) rest.now last.entry) }
+    ensures { IfOk result (λ next. next.items
+        ≡ judging.last_next (judging.scanned rest.now) rest.now last.entry) }
 {
     match scanned(rest) {
         Scan::End(state) => growths(alloc, state, rest),
@@ -109,7 +111,8 @@ fn last_next<'a>(alloc: Global, rest: &[u8], last: Token<'a>) -> Result<Vec<Toke
 /// A token for each mark that the rest of the text may grow to, which begins with no token.
 fn cut_next<'a>(alloc: Global, rest: &[u8]) -> Result<Vec<Token<'a>>, Memory>
     requires { 0 < length rest.now }
-    ensures { IfOk result (λ next. next.items ≡ judging.cut_next (judging.scanned rest.now) rest.now) }
+    ensures { IfOk result (λ next. next.items
+        ≡ judging.cut_next (judging.scanned rest.now) rest.now) }
 {
     match scanned(rest) {
         Scan::End(state) => growths(alloc, state, rest),
@@ -177,7 +180,8 @@ fn count(tokens: &Vec<Token<'_>>) -> usize
 
 /// The place of the token from which on so many are left.
 fn place_of(tokens: &Vec<Token<'_>>, places: &Vec<usize>, left: usize) -> usize
-    requires { (left ≤ length tokens.now.items) × (length tokens.now.items - left < length places.now.items) }
+    requires { (left ≤ length tokens.now.items)
+        × (length tokens.now.items - left < length places.now.items) }
     ensures { result ≡ slice_index places.now.items (length tokens.now.items - left) }
 {
     let index = count(tokens) - left;

@@ -17,15 +17,18 @@ pub fn reads_exactly()
 
 /// A text is one schema at most.
 pub fn schema_is_one()
-    ensures { (text : List ℕ) (s : List TypeDef) (t : List TypeDef) → IsSchemaText s text → IsSchemaText t text → s ≡ t }
+    ensures { (text : List ℕ) (s : List TypeDef) (t : List TypeDef) → IsSchemaText s text
+        → IsSchemaText t text → s ≡ t }
 {}
 
 /// A text has one fault at most, want of memory apart: its first.
 pub fn fault_is_one()
-    ensures { (text : List ℕ) (f : SdlFault_) (g : SdlFault_) → f ≢ Memory → g ≢ Memory → Explains text f → Explains text g → f ≡ g }
+    ensures { (text : List ℕ) (f : SdlFault_) (g : SdlFault_) → f ≢ Memory → g ≢ Memory
+        → Explains text f → Explains text g → f ≡ g }
 {}
 
 /// A text that is a schema has no fault, want of memory apart.
 pub fn schema_has_no_fault()
-    ensures { (text : List ℕ) (s : List TypeDef) (f : SdlFault_) → f ≢ Memory → IsSchemaText s text → Explains text f → ⊥ }
+    ensures { (text : List ℕ) (s : List TypeDef) (f : SdlFault_) → f ≢ Memory → IsSchemaText s text
+        → Explains text f → ⊥ }
 {}

@@ -68,7 +68,8 @@ fn add_part(alloc: Global, types: &mut Items<TypeDef>, part: Part) -> Result<(),
 }
 
 fn add_parts(alloc: Global, types: &mut Items<TypeDef>, parts: Items<Part>) -> Result<(), Memory>
-    ensures { IfOk result (λ r. types.new ≡ types.old ++ map spec.type_def (spec.definitions parts)) }
+    ensures { IfOk result (λ r. types.new ≡ types.old
+        ++ map spec.type_def (spec.definitions parts)) }
 {
     for part in parts.into_vec() {
         add_part(alloc, types, part)?;

@@ -41,7 +41,8 @@ fn more_names(
     test: Test,
     found: Items<Text>,
 ) -> Result<Items<Text>, Stop>
-    ensures { Reads (prefixed found (parse.many (is kind) (spec.next_name kind (reads.passes test)) left.old)) result left.new }
+    ensures { Reads (prefixed found (parse.many (is kind)
+        (spec.next_name kind (reads.passes test)) left.old)) result left.new }
 {
     let mut found = found;
     for _ in 0..left.len() {

@@ -36,6 +36,6 @@ pub fn read(alloc: Global, text: &Text) -> Result<Schema, SdlFault>
     match rule(alloc, parts.as_slice())? {
         Ruling::Twice(name) => Err(SdlFault::Twice(name)),
         Ruling::Unknown(name) => Err(SdlFault::UnknownType(name)),
-        Ruling::Kept => Ok(Schema::of(types_of(alloc, parts)?)),
+        Ruling::Kept => Ok(Schema::of(alloc, types_of(alloc, parts)?)?),
     }
 }

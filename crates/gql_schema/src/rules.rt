@@ -97,7 +97,8 @@ fn again_at(
     definition: &Definition,
 ) -> Result<Option<Text>, Memory>
     ensures twice { IfOk result (λ r. r ≡ spec.twice_at names.old.keys definition.now) }
-    ensures names { IfOk result (λ r. r ≡ None → names.new.keys ≡ names.old.keys ++ definition.now.name ∷ []) }
+    ensures names { IfOk result
+        (λ r. r ≡ None → names.new.keys ≡ names.old.keys ++ definition.now.name ∷ []) }
 {
     if !note(names, &definition.name)? {
         return Ok(Some(definition.name.copy()?));
@@ -108,7 +109,8 @@ fn again_at(
 
 fn again_in(alloc: Global, names: &mut IndexSet<Text>, part: &Part) -> Result<Option<Text>, Memory>
     ensures twice { IfOk result (λ r. r ≡ spec.twice_from names.old.keys (spec.own part.now)) }
-    ensures names { IfOk result (λ r. r ≡ None → names.new.keys ≡ names.old.keys ++ spec.names_of (spec.own part.now)) }
+    ensures names { IfOk result (λ r. r ≡ None
+        → names.new.keys ≡ names.old.keys ++ spec.names_of (spec.own part.now)) }
 {
     match part {
         Part::Type(definition) => again_at(alloc, names, definition),
@@ -122,8 +124,10 @@ fn first_twice(
     names: &mut IndexSet<Text>,
     parts: &[Part],
 ) -> Result<Option<Text>, Memory>
-    ensures twice { IfOk result (λ r. r ≡ spec.twice_from names.old.keys (spec.definitions parts.now)) }
-    ensures names { IfOk result (λ r. r ≡ None → names.new.keys ≡ names.old.keys ++ spec.names_of (spec.definitions parts.now)) }
+    ensures twice { IfOk result
+        (λ r. r ≡ spec.twice_from names.old.keys (spec.definitions parts.now)) }
+    ensures names { IfOk result (λ r. r ≡ None
+        → names.new.keys ≡ names.old.keys ++ spec.names_of (spec.definitions parts.now)) }
 {
     for i in 0..parts.len() {
         if let Some(name) = again_in(alloc, names, &parts[i])? {
@@ -162,7 +166,8 @@ fn unknown_name<'a>(known: &IndexSet<Text>, names: &'a [Text]) -> Option<&'a Tex
 }
 
 fn unknown_input<'a>(known: &IndexSet<Text>, fields: &'a [InputField]) -> Option<&'a Text>
-    ensures { option_copied result ≡ spec.first_not_in known.now.keys (map spec.input_type fields.now) }
+    ensures { option_copied result
+        ≡ spec.first_not_in known.now.keys (map spec.input_type fields.now) }
 {
     for i in 0..fields.len() {
         let name = innermost(&fields[i].of);
@@ -187,7 +192,8 @@ fn unknown_at<'a>(known: &IndexSet<Text>, field: &'a Field) -> Option<&'a Text>
 }
 
 fn unknown_field<'a>(known: &IndexSet<Text>, fields: &'a [Field]) -> Option<&'a Text>
-    ensures { option_copied result ≡ spec.first_not_in known.now.keys (flat_map spec.field_types fields.now) }
+    ensures { option_copied result
+        ≡ spec.first_not_in known.now.keys (flat_map spec.field_types fields.now) }
 {
     for i in 0..fields.len() {
         if let Some(name) = unknown_at(known, &fields[i]) {
@@ -202,7 +208,8 @@ fn unknown_fielded<'a>(
     interfaces: &'a [Text],
     fields: &'a [Field],
 ) -> Option<&'a Text>
-    ensures { option_copied result ≡ spec.first_not_in known.now.keys (interfaces.now ++ flat_map spec.field_types fields.now) }
+    ensures { option_copied result ≡ spec.first_not_in known.now.keys
+        (interfaces.now ++ flat_map spec.field_types fields.now) }
 {
     if let Some(name) = unknown_name(known, interfaces) {
         return Some(name);

@@ -137,7 +137,8 @@ impl<'t, 'a> Left<'t, 'a> {
 
     /// The next token, which passes the test.
     pub fn one(&mut self, test: Test) -> Result<Token<'a>, Stop>
-        ensures { Reads (parse.one Unexpected (reads.passes test) self.old) (reads.with_mark result) self.new }
+        ensures { Reads (parse.one Unexpected (reads.passes test) self.old)
+            (reads.with_mark result) self.new }
     {
         match self.rest {
             [next, rest @ ..] if passes(test, mark_of(next)) => {

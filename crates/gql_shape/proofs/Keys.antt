@@ -1,10 +1,8 @@
 -- An object has exactly the keys of the groups whose field its type has.
-use Rattle.std.proofs.Common.{◌≡◌, ℕ, List, [], ◌∷◌, ◌++◌, Option, Some, None, refl, sym, ap, ◌∙◌, subst}
+use Rattle.std.proofs.Common.{◌≡◌, ℕ, List, [], ◌∷◌, Option, Some, None, refl, sym, ap, subst}
 use Rattle.json_value.specs.declared.tree.Json.{Json}
-use Rattle.json_paths.specs.declared.path.Spot.{Spot}
-use Rattle.gql_shape.specs.declared.shaped.ShapeError.{ShapeError}
-use Rattle.gql_shape.specs.Terms.{Scope, Group}
-use Rattle.gql_shape.specs.Completing.{FieldRule, type_name, unknown, typed, field_rule, after, Fields, all_done, its_type, left_out, field_climbs, field_stays}
+use Rattle.gql_shape.specs.Terms.{Scope}
+use Rattle.gql_shape.specs.Completing.{FieldRule, type_name, unknown, typed, field_rule, after, all_done, its_type, left_out, field_climbs, field_stays}
 use Rattle.gql_shape.specs.Keys.{with_key, keys, HaveKeys, ObjectsHaveKeys}
 
 -- one more member, with the key of the group

@@ -1,10 +1,12 @@
 pub mod Spreads
 pub mod Grouping
+pub mod Indexed
 pub mod Going
 pub mod Standings
 pub mod Rules
 pub mod Running
 pub mod Members
+pub mod MemberPlaces
 pub mod Determined
 pub mod Keys
 pub mod Whole

@@ -64,19 +64,20 @@ module _ (s : Scope) (object : List ℕ) (members : List (List ℕ × Json)) (p 
   pub fields_begin : FieldsRun s object members p all all [] []
   fields_begin = record { goes = λ o fs h. rw (ahead-none o) h }
 
-  module _ (i : ℕ) (made : List (List ℕ × Json)) (es : List ShapeError) (run : FieldsRun s object members p all (drop i all) made es) (g : Group) (within : i < length all) (is : g ≡ get_or all i g) where
-    step_in : (o : Option (List (List ℕ × Json))) (gs : List ShapeError) → Fields s object members p (g ∷ drop (suc i) all) o gs → Fields s object members p all (ahead made o) (es ++ gs)
-    step_in = rw (drop-cons all i g within ∙ ap (λ (h : Group). h ∷ drop (suc i) all) (sym is)) at run.goes
+  -- what is left of the groups stands at the end of a list
+  module _ (up : List Group) (i : ℕ) (made : List (List ℕ × Json)) (es : List ShapeError) (run : FieldsRun s object members p all (drop i up) made es) (g : Group) (within : i < length up) (is : g ≡ get_or up i g) where
+    step_in : (o : Option (List (List ℕ × Json))) (gs : List ShapeError) → Fields s object members p (g ∷ drop (suc i) up) o gs → Fields s object members p all (ahead made o) (es ++ gs)
+    step_in = rw (drop-cons up i g within ∙ ap (λ (h : Group). h ∷ drop (suc i) up) (sym is)) at run.goes
 
-    pub fields_type : field_rule s.schema object g.first.name ≡ type_name → FieldsRun s object members p all (drop (i + 1) all) (made ++ ((g.first.key, j.Str object) ∷ [])) es
+    pub fields_type : field_rule s.schema object g.first.name ≡ type_name → FieldsRun s object members p all (drop (i + 1) up) (made ++ ((g.first.key, j.Str object) ∷ [])) es
     fields_type found = rw add-one (record { goes = λ o gs h. rw (ahead-after made (g.first.key, j.Str object) o) (step_in (after (g.first.key, j.Str object) o) gs (its_type found h)) })
 
-    pub fields_left_out : field_rule s.schema object g.first.name ≡ unknown → FieldsRun s object members p all (drop (i + 1) all) made es
+    pub fields_left_out : field_rule s.schema object g.first.name ≡ unknown → FieldsRun s object members p all (drop (i + 1) up) made es
     fields_left_out found = rw add-one (record { goes = λ o gs h. step_in o gs (left_out found h) })
 
     pub fields_stays : (t : TypeRef) (w : Json) (fs : List ShapeError) → field_rule s.schema object g.first.name ≡ typed t →
         Completes s t (selections_of g) (or_null (named g.first.key members)) (p ++ (spot.Name g.first.key ∷ [])) (Some w) fs →
-        FieldsRun s object members p all (drop (i + 1) all) (made ++ ((g.first.key, w) ∷ [])) (es ++ fs)
+        FieldsRun s object members p all (drop (i + 1) up) (made ++ ((g.first.key, w) ∷ [])) (es ++ fs)
     fields_stays t w fs found completes = rw add-one (record {
       goes = λ o gs h.
           rw (ahead-after made (g.first.key, w) o, append_assoc es fs gs) (step_in (after (g.first.key, w) o) (fs ++ gs) (field_stays found completes h));
@@ -86,7 +87,7 @@ module _ (s : Scope) (object : List ℕ) (members : List (List ℕ × Json)) (p 
         Completes s t (selections_of g) (or_null (named g.first.key members)) (p ++ (spot.Name g.first.key ∷ [])) None fs → Fields s object members p all None (es ++ fs)
     fields_climb t fs found completes = step_in None fs (field_climbs found completes)
 
-  pub fields_end : (i : ℕ) (made : List (List ℕ × Json)) (es : List ShapeError) → FieldsRun s object members p all (drop i all) made es → length all ≤ i → Fields s object members p all (Some made) es
-  fields_end i made es run past =
-      let before : (o : Option (List (List ℕ × Json))) (gs : List ShapeError) → Fields s object members p [] o gs → Fields s object members p all (ahead made o) (es ++ gs) = rw (drop_all i all past) at run.goes in
+  pub fields_end : (up : List Group) (i : ℕ) (made : List (List ℕ × Json)) (es : List ShapeError) → FieldsRun s object members p all (drop i up) made es → length up ≤ i → Fields s object members p all (Some made) es
+  fields_end up i made es run past =
+      let before : (o : Option (List (List ℕ × Json))) (gs : List ShapeError) → Fields s object members p [] o gs → Fields s object members p all (ahead made o) (es ++ gs) = rw (drop_all i up past) at run.goes in
       rw (append-nil made, append-nil es) at (before (Some []) [] all_done)

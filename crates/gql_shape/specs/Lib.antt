@@ -4,3 +4,4 @@ pub mod Completing
 pub mod Keys
 pub mod Shaping
 pub mod Whole
+pub mod Indexed

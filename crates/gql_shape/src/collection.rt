@@ -1,11 +1,12 @@
-ghost use Rattle.std.specs.Prelude.{◌≡◌, ◌<◌, ◌++◌, ◌∷◌, [], length, OnOk, IfOk};
+ghost use Rattle.std.specs.Prelude.{◌≡◌, [], false, map, OnOk};
 ghost use Rattle.gql_types.specs.Schemas as schemas;
 ghost use Rattle.gql_shape.specs.Collecting.{with_field, with_more, with_spread};
 ghost use Rattle.gql_shape.specs.Collecting as spec;
+ghost use Rattle.gql_shape.specs.Indexed.{key_in};
 
-use crate::scope::Name;
 use flow_base::{Memory, Text};
 use gql_terms::Selection;
+use indexmap::IndexSet;
 use std::alloc::Global;
 use std::marker::Model;
 use tree_items::Items;
@@ -28,7 +29,11 @@ impl<'a> Model for Field<'a> {
 
     ghost coded = { Prim.hlevel (codes, value.the_row.coded, selection.the_row.coded) };
 
-    ghost view = { λ f. record { key = f.key.now; name = f.name.now; selections = f.selections.now } };
+    ghost view = { λ f. record {
+      key = f.key.now;
+      name = f.name.now;
+      selections = f.selections.now;
+    } };
 }
 
 impl<'a> Field<'a> {
@@ -92,18 +97,21 @@ impl<'a> Group<'a> {
     }
 
     fn push(&mut self, field: Field<'a>) -> Result<(), Memory>
-        ensures { OnOk result (self.new ≡ with_more field.entry self.old) }
+        ensures pushed { OnOk result (self.new ≡ with_more field.entry self.old) }
+        ensures first { self.new.first ≡ self.old.first }
     {
         self.more.push(field)?;
         Ok(())
     }
 }
 
-/// The groups that a collection has so far, in order of first appearance, and the spreads that it took.
+/// The groups that a collection has so far, in order of first appearance, and the spreads that it took. Both are found by
+/// their names.
 #[derive(Drop)]
 pub struct Collection<'a> {
-    pub seen: Items<Name<'a>>,
-    pub groups: Vec<Group<'a>>,
+    seen: IndexSet<Text>,
+    keys: IndexSet<Text>,
+    groups: Vec<Group<'a>>,
 }
 
 impl<'a> Model for Collection<'a> {
@@ -111,12 +119,16 @@ impl<'a> Model for Collection<'a> {
     ghost use Rattle.gql_terms.specs.contracts.documents.Value as value;
     ghost use Rattle.gql_terms.specs.contracts.documents.Selection as selection;
     ghost use Rattle.std.specs.Coded.{codes};
+    ghost use Rattle.std.specs.Prelude.{◌≡◌, map};
+    ghost use Rattle.gql_shape.specs.Indexed.{key_in};
 
     ghost Value = { terms.Collection };
 
     ghost coded = { Prim.hlevel (codes, value.the_row.coded, selection.the_row.coded) };
 
-    ghost view = { λ c. record { seen = c.seen; groups = c.groups.items } };
+    ghost view = { λ c. record { seen = c.seen.keys; groups = c.groups.items } };
+
+    ghost invariant = { λ c. c.keys.keys ≡ map key_in c.groups.items };
 }
 
 impl<'a> Collection<'a> {
@@ -124,76 +136,64 @@ impl<'a> Collection<'a> {
         ensures { result ≡ record { seen = []; groups = [] } }
     {
         Collection {
-            seen: Items::new(alloc),
+            seen: IndexSet::new(alloc),
+            keys: IndexSet::new(alloc),
             groups: Vec::new(alloc),
         }
     }
 
-    pub fn groups(&self) -> &[Group<'a>]
-        ensures { result.now ≡ self.now.groups }
+    pub fn into_groups(self) -> Items<Group<'a>>
+        ensures { result ≡ self.entry.groups }
     {
-        self.groups.as_slice()
+        let Collection { groups, .. } = self;
+        Items::from_vec(groups)
     }
 
-    /// Whether the spread was taken. Takes time in the number of those that were.
+    /// Whether the spread was taken.
     pub fn has_seen(&self, name: &Text) -> bool
         ensures { result ≡ schemas.is_among self.now.seen name.now }
     {
-        is_seen(self.seen.as_slice(), name)
+        self.seen.contains(name)
     }
 
-    pub fn note(&mut self, name: &'a Text) -> Result<(), Memory>
+    /// Notes a spread that was not taken before.
+    pub fn note(&mut self, name: &Text) -> Result<(), Memory>
+        requires { schemas.is_among self.old.seen name.now ≡ false }
         ensures { OnOk result (self.new ≡ with_spread name.now self.old) }
     {
-        self.seen.push(Name { text: name })?;
+        self.seen.insert(name.copy()?)?;
         Ok(())
     }
 
-    /// Puts the field into the group of its key, or opens one. Takes time in the number of groups.
+    /// Puts the field into the group of its key, or opens one.
     pub fn add(&mut self, alloc: Global, field: Field<'a>) -> Result<(), Memory>
         ensures { OnOk result (self.new ≡ with_field field.entry self.old) }
     {
-        add_field(alloc, &mut self.groups, field)
+        add_field(alloc, &mut self.keys, &mut self.groups, field)
     }
 }
 
-fn is_seen<'a>(seen: &[Name<'a>], name: &Text) -> bool
-    ensures { result ≡ schemas.is_among seen.now name.now }
+/// Puts the field into the group of its key, or opens one. The keys are those of the groups, before and after.
+fn add_field<'a>(
+    alloc: Global,
+    keys: &mut IndexSet<Text>,
+    groups: &mut Vec<Group<'a>>,
+    field: Field<'a>,
+) -> Result<(), Memory>
+    requires { keys.old.keys ≡ map key_in groups.old.items }
+    ensures added { OnOk result (groups.new.items ≡ spec.add field.entry groups.old.items) }
+    ensures keys { keys.new.keys ≡ map key_in groups.new.items }
 {
-    for i in 0..seen.len() {
-        let other = &seen[i];
-        if other.text.as_str() == name.as_str() {
-            return true;
-        }
+    if let Some(at) = keys.get_index_of(field.key()) {
+        return groups[at].push(field);
     }
-    false
-}
-
-/// The place of the group with this key; where there is none, the number of groups.
-fn place_of<'a>(groups: &[Group<'a>], key: &Text) -> usize
-    ensures { result ≡ spec.place_of key.now groups.now }
-{
-    for i in 0..groups.len() {
-        if groups[i].key().as_str() == key.as_str() {
-            return i;
-        }
-    }
-    groups.len()
-}
-
-fn add_field<'a>(alloc: Global, groups: &mut Vec<Group<'a>>, field: Field<'a>) -> Result<(), Memory>
-    ensures { OnOk result (groups.new.items ≡ spec.add field.entry groups.old.items) }
-{
-    let at = place_of(groups.as_slice(), field.key());
-    if at < groups.len() {
-        groups[at].push(field)?;
-    } else {
-        groups
-            .push(Group {
-                first: field,
-                more: Items::new(alloc),
-            })
-            .map_err(|_| Memory)?;
-    }
+    let key = field.key().copy()?;
+    keys.reserve(1)?;
+    let first = Group {
+        first: field,
+        more: Items::new(alloc),
+    };
+    groups.push(first).map_err(|_| Memory)?;
+    let _ = keys.insert(key).unwrap();
     Ok(())
 }

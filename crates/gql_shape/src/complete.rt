@@ -1,17 +1,17 @@
-ghost use Rattle.std.specs.Prelude.{◌≡◌, List, ◌++◌, ◌∷◌, [], IfOk, OnOk};
+ghost use Rattle.std.specs.Prelude.{◌≡◌, ◌<◌, List, ◌++◌, ◌∷◌, [], length, IfOk, OnOk};
 ghost use Rattle.json_value.specs.Members.{named};
 ghost use Rattle.json_paths.specs.declared.path.Spot as path;
 ghost use Rattle.json_paths.specs.declared.path.Spot.TheVariants as spot;
 ghost use Rattle.gql_leaves.specs.Bares.{is_required};
-ghost use Rattle.gql_shape.specs.Collecting.{Selects};
 ghost use Rattle.gql_shape.specs.Completing as spec;
-ghost use Rattle.gql_shape.specs.Completing.{Completes, Settles, selections_of, or_null};
+ghost use Rattle.gql_shape.specs.Completing.{Completes, Settles, or_null};
+ghost use Rattle.gql_shape.specs.Indexed.{selections_at, groups_in, IsIndexOf, IsStretch, Extends};
 
-use crate::collect::collect;
-use crate::collection::{Collection, Group};
+use crate::collections::Collections;
+use crate::known::Stretch;
+use crate::places::Places;
 use crate::plain::{complete_null, complete_plain, kept, wrong_kind};
-use crate::rule::{FieldRule, field_rule, list_type, place_of};
-use crate::scope::Scope;
+use crate::rule::{FieldRule, field_rule, list_type};
 use crate::shaped::{Completed, Members, ShapeError, Values};
 use flow_base::{Memory, Text};
 use gql_terms::TypeRef;
@@ -19,24 +19,6 @@ use json_paths::Spot;
 use json_value::Json;
 use std::alloc::Global;
 use tree_items::Items;
-
-/// What the selections of all fields of a group select of an object of this type.
-fn collect_group<'a>(
-    alloc: Global,
-    scope: &Scope<'a>,
-    object: &Text,
-    group: &Group<'a>,
-) -> Result<Collection<'a>, Memory>
-    ensures { IfOk result (λ c. Selects scope.now object.now (selections_of group.now) c.groups) }
-{
-    let mut into = Collection::new(alloc);
-    collect(alloc, scope, object, group.first_selections(), &mut into)?;
-    let more = group.more();
-    for i in 0..more.len() {
-        collect(alloc, scope, object, more[i].selections(), &mut into)?;
-    }
-    Ok(into)
-}
 
 fn list_or_null(values: Option<Items<Json>>) -> Json
     ensures { result ≡ spec.list_or_null values }
@@ -58,7 +40,8 @@ pub fn object_or_null(members: Option<Items<(Text, Json)>>) -> Json
 
 /// Takes the last spot off.
 fn leave(spots: &mut Vec<Spot>)
-    ensures { (p : List path.Spot) → (s : path.Spot) → spots.old.items ≡ p ++ (s ∷ []) → spots.new.items ≡ p }
+    ensures { (p : List path.Spot) → (s : path.Spot) → spots.old.items ≡ p ++ (s ∷ []) →
+        spots.new.items ≡ p }
 {
     let _ = spots.pop();
 }
@@ -67,45 +50,60 @@ fn leave(spots: &mut Vec<Spot>)
 #[cycle(complete)]
 pub fn complete<'a>(
     alloc: Global,
-    scope: &Scope<'a>,
+    collected: &mut Collections<'a>,
     value: &Json,
     of: &TypeRef,
-    group: &Group<'a>,
+    at: usize,
     spots: &mut Vec<Spot>,
 ) -> Result<Completed, Memory>
-    ensures completed { IfOk result (λ c. Completes scope.now of.now (selections_of group.now) value.now spots.old.items c.value c.errors) }
+    requires { at < length collected.old.groups }
+    ensures completed { IfOk result (λ c. Completes collected.old.scope of.now
+        (selections_at collected.old.groups at) value.now spots.old.items c.value c.errors) }
     ensures back { OnOk result (spots.new.items ≡ spots.old.items) }
+    ensures extends { OnOk result (Extends collected.old collected.new) }
 {
     match value {
         Json::Null => complete_null(alloc, of, spots.as_slice()),
         Json::List(items) => match list_type(of) {
-            Some(inner) => complete_list(alloc, scope, items.as_slice(), of, inner, group, spots),
-            None => complete_plain(alloc, scope, of, value, spots.as_slice()),
+            Some(inner) => complete_list(alloc, collected, items.as_slice(), of, inner, at, spots),
+            None => complete_plain(alloc, collected.scope(), of, value, spots.as_slice()),
         },
-        Json::Object(members) => match scope.composite_type(of) {
-            Some(name) => complete_object(alloc, scope, members.as_slice(), of, name, group, spots),
-            None => complete_plain(alloc, scope, of, value, spots.as_slice()),
+        Json::Object(members) => match collected.scope().composite_type(of) {
+            Some(name) => complete_object(
+                alloc,
+                collected,
+                members.as_slice(),
+                of,
+                name,
+                at,
+                spots,
+            ),
+            None => complete_plain(alloc, collected.scope(), of, value, spots.as_slice()),
         },
-        Json::Bool(_) => complete_plain(alloc, scope, of, value, spots.as_slice()),
-        Json::Number(_) => complete_plain(alloc, scope, of, value, spots.as_slice()),
-        Json::Str(_) => complete_plain(alloc, scope, of, value, spots.as_slice()),
+        Json::Bool(_) => complete_plain(alloc, collected.scope(), of, value, spots.as_slice()),
+        Json::Number(_) => complete_plain(alloc, collected.scope(), of, value, spots.as_slice()),
+        Json::Str(_) => complete_plain(alloc, collected.scope(), of, value, spots.as_slice()),
     }
 }
 
 #[cycle(complete)]
 fn complete_list<'a>(
     alloc: Global,
-    scope: &Scope<'a>,
+    collected: &mut Collections<'a>,
     items: &[Json],
     of: &TypeRef,
     inner: &TypeRef,
-    group: &Group<'a>,
+    at: usize,
     spots: &mut Vec<Spot>,
 ) -> Result<Completed, Memory>
-    ensures settled { IfOk result (λ c. Settles scope.now (spec.elements inner.now items.now) (is_required of.now) (selections_of group.now) spots.old.items c.value c.errors) }
+    requires { at < length collected.old.groups }
+    ensures settled { IfOk result (λ c. Settles collected.old.scope
+        (spec.elements inner.now items.now) (is_required of.now)
+        (selections_at collected.old.groups at) spots.old.items c.value c.errors) }
     ensures back { OnOk result (spots.new.items ≡ spots.old.items) }
+    ensures extends { OnOk result (Extends collected.old collected.new) }
 {
-    let Values { values, errors } = complete_items(alloc, scope, items, inner, group, spots)?;
+    let Values { values, errors } = complete_items(alloc, collected, items, inner, at, spots)?;
     let value = kept(of, list_or_null(values));
     Ok(Completed { value, errors })
 }
@@ -114,14 +112,17 @@ fn complete_list<'a>(
 #[cycle(complete)]
 fn complete_items<'a>(
     alloc: Global,
-    scope: &Scope<'a>,
+    collected: &mut Collections<'a>,
     items: &[Json],
     inner: &TypeRef,
-    group: &Group<'a>,
+    at: usize,
     spots: &mut Vec<Spot>,
 ) -> Result<Values, Memory>
-    ensures elements { IfOk result (λ c. spec.Elements scope.now inner.now (selections_of group.now) spots.old.items 0 items.now c.values c.errors) }
+    requires { at < length collected.old.groups }
+    ensures elements { IfOk result (λ c. spec.Elements collected.old.scope inner.now
+        (selections_at collected.old.groups at) spots.old.items 0 items.now c.values c.errors) }
     ensures back { OnOk result (spots.new.items ≡ spots.old.items) }
+    ensures extends { OnOk result (Extends collected.old collected.new) }
 {
     let mut values = Items::new(alloc);
     let mut errors: Items<ShapeError> = Items::new(alloc);
@@ -129,7 +130,7 @@ fn complete_items<'a>(
         let Completed {
             value,
             errors: more,
-        } = complete_item(alloc, scope, &items[i], i as u64, inner, group, spots)?;
+        } = complete_item(alloc, collected, &items[i], i as u64, inner, at, spots)?;
         errors.append(more)?;
         match value {
             Some(value) => values.push(value)?,
@@ -151,18 +152,22 @@ fn complete_items<'a>(
 #[cycle(complete)]
 fn complete_item<'a>(
     alloc: Global,
-    scope: &Scope<'a>,
+    collected: &mut Collections<'a>,
     item: &Json,
     index: u64,
     inner: &TypeRef,
-    group: &Group<'a>,
+    at: usize,
     spots: &mut Vec<Spot>,
 ) -> Result<Completed, Memory>
-    ensures completed { IfOk result (λ c. Completes scope.now inner.now (selections_of group.now) item.now (spots.old.items ++ (spot.Index index ∷ [])) c.value c.errors) }
+    requires { at < length collected.old.groups }
+    ensures completed { IfOk result (λ c. Completes collected.old.scope inner.now
+        (selections_at collected.old.groups at) item.now
+        (spots.old.items ++ (spot.Index index ∷ [])) c.value c.errors) }
     ensures back { OnOk result (spots.new.items ≡ spots.old.items) }
+    ensures extends { OnOk result (Extends collected.old collected.new) }
 {
     spots.push(Spot::Index(index))?;
-    let completed = complete(alloc, scope, item, inner, group, spots)?;
+    let completed = complete(alloc, collected, item, inner, at, spots)?;
     leave(spots);
     Ok(completed)
 }
@@ -171,18 +176,23 @@ fn complete_item<'a>(
 #[cycle(complete)]
 fn complete_object<'a>(
     alloc: Global,
-    scope: &Scope<'a>,
+    collected: &mut Collections<'a>,
     members: &[(Text, Json)],
     of: &TypeRef,
     name: &Text,
-    group: &Group<'a>,
+    at: usize,
     spots: &mut Vec<Spot>,
 ) -> Result<Completed, Memory>
-    ensures settled { IfOk result (λ c. Settles scope.now (spec.fields_rule members.now (spec.object_type scope.now.schema name.now members.now)) (is_required of.now) (selections_of group.now) spots.old.items c.value c.errors) }
+    requires { at < length collected.old.groups }
+    ensures settled { IfOk result (λ c. Settles collected.old.scope
+        (spec.fields_rule members.now (spec.object_type collected.old.scope.schema name.now
+        members.now)) (is_required of.now) (selections_at collected.old.groups at) spots.old.items
+        c.value c.errors) }
     ensures back { OnOk result (spots.new.items ≡ spots.old.items) }
+    ensures extends { OnOk result (Extends collected.old collected.new) }
 {
-    match scope.object_type(name, members) {
-        Some(object) => complete_members(alloc, scope, members, of, object, group, spots),
+    match collected.scope().object_type(name, members) {
+        Some(object) => complete_members(alloc, collected, members, of, object, at, spots),
         None => wrong_kind(alloc, of, spots.as_slice()),
     }
 }
@@ -190,21 +200,25 @@ fn complete_object<'a>(
 #[cycle(complete)]
 fn complete_members<'a>(
     alloc: Global,
-    scope: &Scope<'a>,
+    collected: &mut Collections<'a>,
     members: &[(Text, Json)],
     of: &TypeRef,
     object: &Text,
-    group: &Group<'a>,
+    at: usize,
     spots: &mut Vec<Spot>,
 ) -> Result<Completed, Memory>
-    ensures settled { IfOk result (λ c. Settles scope.now (spec.fields object.now members.now) (is_required of.now) (selections_of group.now) spots.old.items c.value c.errors) }
+    requires { at < length collected.old.groups }
+    ensures settled { IfOk result (λ c. Settles collected.old.scope
+        (spec.fields object.now members.now) (is_required of.now)
+        (selections_at collected.old.groups at) spots.old.items c.value c.errors) }
     ensures back { OnOk result (spots.new.items ≡ spots.old.items) }
+    ensures extends { OnOk result (Extends collected.old collected.new) }
 {
-    let selected = collect_group(alloc, scope, object, group)?;
+    let selected = collected.enter(alloc, at, object)?;
     let Members {
         members: made,
         errors,
-    } = complete_fields(alloc, scope, members, object, selected.groups(), spots)?;
+    } = complete_fields(alloc, collected, members, object, selected, spots)?;
     let value = kept(of, object_or_null(made));
     Ok(Completed { value, errors })
 }
@@ -213,30 +227,36 @@ fn complete_members<'a>(
 #[cycle(complete)]
 pub fn complete_fields<'a>(
     alloc: Global,
-    scope: &Scope<'a>,
+    collected: &mut Collections<'a>,
     members: &[(Text, Json)],
     object: &Text,
-    groups: &[Group<'a>],
+    stretch: Stretch,
     spots: &mut Vec<Spot>,
 ) -> Result<Members, Memory>
-    ensures fields { IfOk result (λ c. spec.Fields scope.now object.now members.now spots.old.items groups.now c.members c.errors) }
+    requires { IsStretch stretch collected.old.groups }
+    ensures fields { IfOk result (λ c. spec.Fields collected.old.scope object.now members.now
+        spots.old.items (groups_in stretch collected.old.groups) c.members c.errors) }
     ensures back { OnOk result (spots.new.items ≡ spots.old.items) }
+    ensures extends { OnOk result (Extends collected.old collected.new) }
 {
+    let names = stretch.past.saturating_sub(stretch.first);
+    let places = Places::of(alloc, members, names)?;
     let mut made: Items<(Text, Json)> = Items::new(alloc);
     let mut errors: Items<ShapeError> = Items::new(alloc);
-    for i in 0..groups.len() {
-        let group = &groups[i];
-        match field_rule(scope, object, group.name()) {
-            FieldRule::TypeName => made.push((group.key().copy()?, Json::Str(object.copy()?)))?,
+    for at in stretch.first..stretch.past {
+        let group = collected.group(at);
+        let key = group.key();
+        match field_rule(collected.scope(), object, group.name()) {
+            FieldRule::TypeName => made.push((key.copy()?, Json::Str(object.copy()?)))?,
             FieldRule::Unknown => {}
             FieldRule::Typed(of) => {
                 let Completed {
                     value,
                     errors: more,
-                } = complete_field(alloc, scope, members, of, group, spots)?;
+                } = complete_field(alloc, collected, members, &places, of, key, at, spots)?;
                 errors.append(more)?;
                 match value {
-                    Some(value) => made.push((group.key().copy()?, value))?,
+                    Some(value) => made.push((key.copy()?, value))?,
                     None => {
                         return Ok(Members {
                             members: None,
@@ -257,17 +277,24 @@ pub fn complete_fields<'a>(
 #[cycle(complete)]
 fn complete_field<'a>(
     alloc: Global,
-    scope: &Scope<'a>,
+    collected: &mut Collections<'a>,
     members: &[(Text, Json)],
+    places: &Places,
     of: &TypeRef,
-    group: &Group<'a>,
+    key: &Text,
+    at: usize,
     spots: &mut Vec<Spot>,
 ) -> Result<Completed, Memory>
-    ensures completed { IfOk result (λ c. Completes scope.now of.now (selections_of group.now) (or_null (named group.now.first.key members.now)) (spots.old.items ++ (spot.Name group.now.first.key ∷ [])) c.value c.errors) }
+    requires there { at < length collected.old.groups }
+    requires indexed { IsIndexOf places.now.places members.now }
+    ensures completed { IfOk result (λ c. Completes collected.old.scope of.now
+        (selections_at collected.old.groups at) (or_null (named key.now members.now))
+        (spots.old.items ++ (spot.Name key.now ∷ [])) c.value c.errors) }
     ensures back { OnOk result (spots.new.items ≡ spots.old.items) }
+    ensures extends { OnOk result (Extends collected.old collected.new) }
 {
-    spots.push(Spot::Name(group.key().copy()?))?;
-    let completed = complete_member(alloc, scope, members, of, group, spots)?;
+    spots.push(Spot::Name(key.copy()?))?;
+    let completed = complete_member(alloc, collected, members, places, of, key, at, spots)?;
     leave(spots);
     Ok(completed)
 }
@@ -275,18 +302,25 @@ fn complete_field<'a>(
 #[cycle(complete)]
 fn complete_member<'a>(
     alloc: Global,
-    scope: &Scope<'a>,
+    collected: &mut Collections<'a>,
     members: &[(Text, Json)],
+    places: &Places,
     of: &TypeRef,
-    group: &Group<'a>,
+    key: &Text,
+    at: usize,
     spots: &mut Vec<Spot>,
 ) -> Result<Completed, Memory>
-    ensures completed { IfOk result (λ c. Completes scope.now of.now (selections_of group.now) (or_null (named group.now.first.key members.now)) spots.old.items c.value c.errors) }
+    requires there { at < length collected.old.groups }
+    requires indexed { IsIndexOf places.now.places members.now }
+    ensures completed { IfOk result (λ c. Completes collected.old.scope of.now
+        (selections_at collected.old.groups at) (or_null (named key.now members.now))
+        spots.old.items c.value c.errors) }
     ensures back { OnOk result (spots.new.items ≡ spots.old.items) }
+    ensures extends { OnOk result (Extends collected.old collected.new) }
 {
-    let at = place_of(members, group.key().as_str());
-    if at < members.len() {
-        return complete(alloc, scope, &members[at].1, of, group, spots);
+    let place = places.place(members, key);
+    if place < members.len() {
+        return complete(alloc, collected, &members[place].1, of, at, spots);
     }
     complete_null(alloc, of, spots.as_slice())
 }

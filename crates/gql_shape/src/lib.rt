@@ -5,9 +5,12 @@
 mod answers;
 mod collect;
 mod collection;
+mod collections;
 mod complete;
 mod condition;
+mod known;
 mod laws;
+mod places;
 mod plain;
 mod rule;
 mod scope;

@@ -38,7 +38,8 @@ pub fn kept(of: &TypeRef, value: Json) -> Option<Json>
 
 /// What null is completed to.
 pub fn complete_null(alloc: Global, of: &TypeRef, spots: &[Spot]) -> Result<Completed, Memory>
-    ensures { IfOk result (λ c. (s : terms.Scope) → (xs : List Selection) → Completes s of.now xs j.Null spots.now c.value c.errors) }
+    ensures { IfOk result (λ c. (s : terms.Scope) → (xs : List Selection) → Completes s of.now xs
+        j.Null spots.now c.value c.errors) }
 {
     if is_required(of) {
         let errors = one_error(alloc, ShapeCode::NullInNonNull, spots)?;
@@ -54,7 +55,8 @@ pub fn complete_null(alloc: Global, of: &TypeRef, spots: &[Spot]) -> Result<Comp
 }
 
 pub fn wrong_kind(alloc: Global, of: &TypeRef, spots: &[Spot]) -> Result<Completed, Memory>
-    ensures { IfOk result (λ c. (s : terms.Scope) → (xs : List Selection) → Settles s spec.wrong (bares.is_required of.now) xs spots.now c.value c.errors) }
+    ensures { IfOk result (λ c. (s : terms.Scope) → (xs : List Selection) → Settles s spec.wrong
+        (bares.is_required of.now) xs spots.now c.value c.errors) }
 {
     let errors = one_error(alloc, ShapeCode::WrongKind, spots)?;
     let value = kept(of, Json::Null);
@@ -62,7 +64,8 @@ pub fn wrong_kind(alloc: Global, of: &TypeRef, spots: &[Spot]) -> Result<Complet
 }
 
 fn leaf_value(alloc: Global, of: &TypeRef, value: &Json) -> Result<Completed, Memory>
-    ensures { IfOk result (λ c. (s : terms.Scope) → (xs : List Selection) → (p : List path.Spot) → Settles s (spec.leaf value.now) (bares.is_required of.now) xs p c.value c.errors) }
+    ensures { IfOk result (λ c. (s : terms.Scope) → (xs : List Selection) → (p : List path.Spot) →
+        Settles s (spec.leaf value.now) (bares.is_required of.now) xs p c.value c.errors) }
 {
     let value = kept(of, copy(alloc, value)?);
     Ok(Completed {
@@ -79,7 +82,9 @@ pub fn complete_plain<'a>(
     value: &Json,
     spots: &[Spot],
 ) -> Result<Completed, Memory>
-    ensures { IfOk result (λ c. (xs : List Selection) → Settles scope.now (spec.plain_rule scope.now.schema (bares.bare of.now) value.now) (bares.is_required of.now) xs spots.now c.value c.errors) }
+    ensures { IfOk result (λ c. (xs : List Selection) → Settles scope.now
+        (spec.plain_rule scope.now.schema (bares.bare of.now) value.now) (bares.is_required of.now)
+        xs spots.now c.value c.errors) }
 {
     match without_mark(of) {
         Bare::ListOf(_) => wrong_kind(alloc, of, spots),

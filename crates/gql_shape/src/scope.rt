@@ -22,21 +22,18 @@ impl<'a> Model for Scope<'a> {
 
     ghost Value = { terms.Scope };
 
-    ghost coded = { Prim.hlevel (codes, type_ref.the_row.coded, value.the_row.coded, selection.the_row.coded, json.the_row.coded) };
+    ghost coded = { Prim.hlevel (
+      codes,
+      type_ref.the_row.coded,
+      value.the_row.coded,
+      selection.the_row.coded,
+      json.the_row.coded,
+    ) };
 
-    ghost view = { λ s. record { schema = s.schema.now; fragments = s.fragments.now; variables = s.variables.now } };
-}
-
-/// A name that a document holds.
-#[derive(Drop)]
-pub struct Name<'a> {
-    pub text: &'a Text,
-}
-
-impl<'a> Model for Name<'a> {
-    ghost use Rattle.std.specs.Prelude.{List, ℕ};
-
-    ghost Value = { List ℕ };
-
-    ghost view = { λ n. n.text.now };
+    ghost view = { λ s. record {
+      schema = s.schema.now;
+      fragments = s.fragments.now;
+      variables =
+          s.variables.now;
+    } };
 }

@@ -38,7 +38,7 @@ fn schema(alloc: Global, body: TypeBody) -> Result<Schema, Memory> {
     })?;
     let name = Text::of(alloc, "Query")?;
     types.push(TypeDef { name, body })?;
-    Ok(Schema::of(types))
+    Schema::of(alloc, types)
 }
 
 fn leaf(alloc: Global, name: &str) -> Result<Selection, Memory> {

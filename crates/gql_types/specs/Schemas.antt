@@ -1,5 +1,5 @@
 -- What a schema, as the list of its types, says of a name.
-use Rattle.std.specs.Prelude.{ℕ, Bool, false, ◌||◌, List, [], ◌∷◌, Option, Some, None, if◌then◌else◌}
+use Rattle.std.specs.Prelude.{ℕ, Bool, false, ◌||◌, List, [], ◌∷◌, map, Option, Some, None, if◌then◌else◌}
 use Rattle.std.specs.Str.{bytes_eq}
 use Rattle.gql_terms.specs.declared.documents.TypeRef.{TypeRef}
 use Rattle.gql_types.specs.declared.definition.Kind.{Kind}
@@ -9,6 +9,7 @@ use Rattle.gql_types.specs.declared.definition.InputField.{InputField}
 use Rattle.gql_types.specs.declared.definition.TypeBody.{TypeBody}
 use Rattle.gql_types.specs.declared.definition.TypeBody.TheVariants as body
 use Rattle.gql_types.specs.declared.definition.TypeDef.{TypeDef}
+use Rattle.gql_types.specs.Index.{input_field_name}
 
 abbrev pub is_among : List (List ℕ) → List ℕ → Bool
 is_among [] name = false
@@ -71,6 +72,14 @@ inputs_of _ = None
 -- the fields of an input type
 abbrev pub inputs : List TypeDef → List ℕ → Option (List InputField)
 inputs schema name = inputs_of (body_of schema name)
+
+abbrev pub has_input_of : List ℕ → Option TypeBody → Bool
+has_input_of field (Some (body.Input fields)) = is_among (map input_field_name fields) field
+has_input_of field _ = false
+
+-- this is an input type that has the field
+abbrev pub has_input : List TypeDef → List ℕ → List ℕ → Bool
+has_input schema name field = has_input_of field (body_of schema name)
 
 abbrev pub lists_of : List ℕ → Option TypeBody → Bool
 lists_of name None = false

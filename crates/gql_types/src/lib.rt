@@ -2,6 +2,8 @@
 #![tactic(auto)]
 
 mod definition;
+mod index;
+mod indexed_type;
 mod schema;
 #[cfg(test)]
 mod tests;

@@ -1,22 +1,30 @@
-ghost use Rattle.std.specs.Prelude.{◌≡◌, ◌↔◌, IsTrue};
-ghost use Rattle.std.specs.Option.{option_copied};
+ghost use Rattle.std.specs.Prelude.{◌≡◌, IfOk};
+ghost use Rattle.std.specs.Option.{option_copied, option_map};
 ghost use Rattle.gql_types.specs.Schemas as spec;
+ghost use Rattle.gql_types.specs.Finding.{body_in};
 
-use crate::definition::{FieldDef, InputField, Kind, TypeBody, TypeDef};
-use flow_base::Text;
+use crate::definition::{InputField, Kind, TypeBody, TypeDef};
+use crate::index::places_of;
+use crate::indexed_type::IndexedType;
+use flow_base::{Memory, Text};
 use gql_terms::TypeRef;
+use indexmap::IndexMap;
+use std::alloc::Global;
 use std::marker::Model;
-use tree_items::Items;
+use tree_items::{Items, at};
 
-/// A schema, which contracts see as the list of its types.
-#[derive(Debug, Drop)]
+/// A schema, which contracts see as the list of its types. Its types, and the names that each lists, are found by indexes.
+#[derive(Drop)]
 pub struct Schema {
-    types: Items<TypeDef>,
+    types: Vec<IndexedType>,
+    places: IndexMap<Text, usize>,
 }
 
 impl Model for Schema {
-    ghost use Rattle.std.specs.Prelude.{List};
+    ghost use Rattle.std.specs.Prelude.{List, map};
     ghost use Rattle.gql_types.specs.declared.definition.TypeDef.{TypeDef};
+    ghost use Rattle.gql_types.specs.Index.{FindsFirst, type_def_name};
+    ghost use Rattle.gql_types.specs.Finding.{definition_of};
     ghost use Rattle.gql_terms.specs.contracts.documents.TypeRef as type_ref;
     ghost use Rattle.gql_terms.specs.contracts.documents.Value as value;
     ghost use Rattle.std.specs.Coded.{codes};
@@ -25,23 +33,45 @@ impl Model for Schema {
 
     ghost coded = { Prim.hlevel (codes, type_ref.the_row.coded, value.the_row.coded) };
 
-    ghost view = { λ s. s.types };
+    ghost view = { λ s. map definition_of s.types.items };
+
+    ghost invariant = { λ s. FindsFirst s.places
+        (map type_def_name (map definition_of s.types.items)) };
 }
 
 impl Schema {
-    /// The schema of these types. Of two types with one name the first counts.
-    pub fn of(types: Items<TypeDef>) -> Schema
-        ensures { result ≡ types }
+    /// The schema of these types. Of two types with one name the first counts. Fails only for want of memory. Takes time
+    /// in the names that it lists; a look-up takes time in the names that it is given, by hash.
+    pub fn of(alloc: Global, types: Items<TypeDef>) -> Result<Schema, Memory>
+        ensures { IfOk result (λ s. s ≡ types) }
     {
-        Schema { types }
+        let mut names = Vec::new(alloc);
+        let mut kept = Vec::new(alloc);
+        for definition in types.into_vec() {
+            names.push(definition.name.copy()?)?;
+            kept.push(IndexedType::of(alloc, definition)?)?;
+        }
+        let places = places_of(alloc, names)?;
+        Ok(Schema {
+            types: kept,
+            places,
+        })
+    }
+
+    /// The first type with this name.
+    fn find(&self, name: &Text) -> Option<&IndexedType>
+        ensures { option_map body_in (option_copied result) ≡ spec.body_of self.now name.now }
+    {
+        let place = self.places.get(name)?;
+        at(&self.types, *place)
     }
 
     /// The kind of a type, and None exactly where there is no such type.
     pub fn kind(&self, name: &Text) -> Option<Kind>
         ensures { result ≡ spec.kind self.now name.now }
     {
-        match body_of(self.types.as_slice(), name) {
-            Some(body) => Some(kind_of(body)),
+        match self.find(name) {
+            Some(found) => Some(kind_of(&found.definition.body)),
             None => None,
         }
     }
@@ -50,8 +80,8 @@ impl Schema {
     pub fn field(&self, type_name: &Text, field: &Text) -> Option<&TypeRef>
         ensures { option_copied result ≡ spec.field self.now type_name.now field.now }
     {
-        match body_of(self.types.as_slice(), type_name) {
-            Some(body) => field_of(fields_of(body), field),
+        match self.find(type_name) {
+            Some(found) => found.field(field),
             None => None,
         }
     }
@@ -60,9 +90,12 @@ impl Schema {
     pub fn has_value(&self, enum_name: &Text, value: &Text) -> bool
         ensures { result ≡ spec.has_value self.now enum_name.now value.now }
     {
-        match body_of(self.types.as_slice(), enum_name) {
-            Some(TypeBody::Enum(values)) => is_among(values.as_slice(), value),
-            _ => false,
+        match self.find(enum_name) {
+            Some(found) => match &found.definition.body {
+                TypeBody::Enum(_) => found.has(value),
+                _ => false,
+            },
+            None => false,
         }
     }
 
@@ -70,9 +103,25 @@ impl Schema {
     pub fn inputs(&self, input: &Text) -> Option<&Items<InputField>>
         ensures { option_copied result ≡ spec.inputs self.now input.now }
     {
-        match body_of(self.types.as_slice(), input) {
-            Some(TypeBody::Input(fields)) => Some(fields),
-            _ => None,
+        match self.find(input) {
+            Some(found) => match &found.definition.body {
+                TypeBody::Input(fields) => Some(fields),
+                _ => None,
+            },
+            None => None,
+        }
+    }
+
+    /// Whether this is an input type that has this field.
+    pub fn has_input(&self, input: &Text, field: &Text) -> bool
+        ensures { result ≡ spec.has_input self.now input.now field.now }
+    {
+        match self.find(input) {
+            Some(found) => match &found.definition.body {
+                TypeBody::Input(_) => found.has(field),
+                _ => false,
+            },
+            None => false,
         }
     }
 
@@ -83,10 +132,13 @@ impl Schema {
         if object.as_str() == condition.as_str() {
             return true;
         }
-        match body_of(self.types.as_slice(), condition) {
-            Some(TypeBody::Interface { .. }) => self.lists(object, condition),
-            Some(TypeBody::Union(members)) => is_among(members.as_slice(), object),
-            _ => false,
+        match self.find(condition) {
+            Some(found) => match &found.definition.body {
+                TypeBody::Interface { .. } => self.lists(object, condition),
+                TypeBody::Union(_) => found.has(object),
+                _ => false,
+            },
+            None => false,
         }
     }
 
@@ -94,8 +146,8 @@ impl Schema {
     fn lists(&self, object: &Text, interface: &Text) -> bool
         ensures { result ≡ spec.lists self.now object.now interface.now }
     {
-        match body_of(self.types.as_slice(), object) {
-            Some(body) => is_among(interfaces_of(body), interface),
+        match self.find(object) {
+            Some(found) => found.lists(interface),
             None => false,
         }
     }
@@ -112,59 +164,4 @@ fn kind_of(body: &TypeBody) -> Kind
         TypeBody::Enum(_) => Kind::Enum,
         TypeBody::Input(_) => Kind::Input,
     }
-}
-
-fn fields_of(body: &TypeBody) -> &[FieldDef]
-    ensures { result.now ≡ spec.fields_of body.now }
-{
-    match body {
-        TypeBody::Object { fields, .. } => fields.as_slice(),
-        TypeBody::Interface { fields, .. } => fields.as_slice(),
-        _ => &[],
-    }
-}
-
-fn interfaces_of(body: &TypeBody) -> &[Text]
-    ensures { result.now ≡ spec.interfaces_of body.now }
-{
-    match body {
-        TypeBody::Object { interfaces, .. } => interfaces.as_slice(),
-        TypeBody::Interface { interfaces, .. } => interfaces.as_slice(),
-        _ => &[],
-    }
-}
-
-/// The body of the first type with this name. Takes time in the number of types.
-fn body_of<'a>(types: &'a [TypeDef], name: &Text) -> Option<&'a TypeBody>
-    ensures { option_copied result ≡ spec.body_of types.now name.now }
-{
-    for i in 0..types.len() {
-        if types[i].name.as_str() == name.as_str() {
-            return Some(&types[i].body);
-        }
-    }
-    None
-}
-
-/// The type of the first field with this name.
-fn field_of<'a>(fields: &'a [FieldDef], name: &Text) -> Option<&'a TypeRef>
-    ensures { option_copied result ≡ spec.field_of fields.now name.now }
-{
-    for i in 0..fields.len() {
-        if fields[i].name.as_str() == name.as_str() {
-            return Some(&fields[i].of);
-        }
-    }
-    None
-}
-
-fn is_among(names: &[Text], name: &Text) -> bool
-    ensures { result ≡ spec.is_among names.now name.now }
-{
-    for i in 0..names.len() {
-        if names[i].as_str() == name.as_str() {
-            return true;
-        }
-    }
-    false
 }

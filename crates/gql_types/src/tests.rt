@@ -1,4 +1,4 @@
-use crate::{FieldDef, Kind, Schema, TypeBody, TypeDef};
+use crate::{FieldDef, InputField, Kind, Schema, TypeBody, TypeDef};
 use flow_base::{Memory, Text};
 use gql_terms::TypeRef;
 use std::alloc::Global;
@@ -30,7 +30,7 @@ fn object(alloc: Global, interfaces: &[&str], field: &str) -> Result<TypeBody, M
     })
 }
 
-/// `interface Pet  type Dog implements Pet { friend: Dog }  union Any = Dog  enum Size { BIG }  scalar Date  input Find`
+/// `interface Pet  type Dog implements Pet { friend: Dog }  union Any = Dog  enum Size { BIG }  scalar Date  input Find { name: Date }`
 fn pets(alloc: Global) -> Result<Schema, Memory> {
     let mut types = Items::new(alloc);
     let pet = TypeBody::Interface {
@@ -54,12 +54,18 @@ fn pets(alloc: Global) -> Result<Schema, Memory> {
         TypeBody::Enum(texts(alloc, &["BIG"])?),
     )?;
     define(&mut types, Text::of(alloc, "Date")?, TypeBody::Scalar)?;
+    let mut inputs = Items::new(alloc);
+    inputs.push(InputField {
+        name: Text::of(alloc, "name")?,
+        of: TypeRef::Named(Text::of(alloc, "Date")?),
+        default: None,
+    })?;
     define(
         &mut types,
         Text::of(alloc, "Find")?,
-        TypeBody::Input(Items::new(alloc)),
+        TypeBody::Input(inputs),
     )?;
-    Ok(Schema::of(types))
+    Schema::of(alloc, types)
 }
 
 #[test]
@@ -138,9 +144,12 @@ fn values_are_those_of_an_enum(rt: HostRuntime) -> Result<(), Fail> {
 #[test]
 fn an_input_type_has_input_fields(rt: HostRuntime) -> Result<(), Fail> {
     let schema = pets(rt.alloc())?;
+    let field = Text::of(rt.alloc(), "name")?;
     for (name, want) in [("Find", true), ("Dog", false)] {
         let name = Text::of(rt.alloc(), name)?;
         assert_eq!(rt; schema.inputs(&name).is_some(), want);
+        assert_eq!(rt; schema.has_input(&name, &field), want);
+        assert!(rt; !schema.has_input(&name, &name));
     }
     Ok(())
 }

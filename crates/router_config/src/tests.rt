@@ -27,7 +27,7 @@ fn schema(alloc: Global) -> Result<Schema, Memory> {
     define(&mut types, text(alloc, "Find")?, find)?;
     let query = TypeBody::Union(Items::new(alloc));
     define(&mut types, text(alloc, "Query")?, query)?;
-    Ok(Schema::of(types))
+    Schema::of(alloc, types)
 }
 
 fn rules(alloc: Global, names: &[&str]) -> Result<Items<SubRule>, Memory> {

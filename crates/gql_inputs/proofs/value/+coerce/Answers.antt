@@ -131,7 +131,7 @@ coerce_named-returns-else-fits-clause-refused t c =
 
 pub coerce_fields-coerce_field-requires : goal.coerce_fields-coerce_field-requires
 coerce_fields-coerce_field-requires t c =
-    let h = field-in type_size c.args.schema.now c.args.name.now c.args.fields.now c.loop-i.i c.index-fields-i.result c.requires c.loop-i-test.true c.index-fields-i.is in
+    let h = field-in type_size c.args.schema.now c.args.name.now c.args.fields.now c.loop-i.i c.index-fields-i.result c.requires.fields c.loop-i-test.true c.index-fields-i.is in
     grind (arith, h)
 
 pub coerce_fields-returns-in_err-value-clause-refused : goal.coerce_fields-returns-in_err-value-clause-refused
