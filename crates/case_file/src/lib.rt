@@ -19,5 +19,6 @@ mod tests;
 
 pub use content::{Case, Timed};
 pub use fault::{CaseFault, CaseMember};
+pub use forms::{list_member, number_member, text_member};
 pub use laws::case_is_one;
 pub use read::read_case;

@@ -12,7 +12,7 @@ use Rattle.partial_fetch.specs.declared.answer.Answer.{Answer}
 use Rattle.case_file.specs.declared.content.Timed.{Timed}
 use Rattle.case_run.specs.declared.ending.Ending.{Ending}
 use Rattle.case_run.specs.declared.ending.Ending.TheVariants as ending
-use Rattle.case_run.specs.Runs.{Standing, Does, text_of, Runs}
+use Rattle.case_run.specs.Runs.{Standing, AnswersTimed, text_of, Runs}
 use Rattle.case_run.specs.Playing.{PlaysOne}
 use Rattle.case_run.specs.Asking.{EndsWith}
 
@@ -28,7 +28,7 @@ module _ (site : Site) where
   continues_start s timeds out extent runs = runs
 
   pub continues_more : (s : Standing) (timeds : List Timed) (done : List ℕ) (t : Standing) (timed : Timed) (rest : List Timed) (next : Standing) (a : Answer)
-      → Continues s timeds done t (timed ∷ rest) → Does site timed t next a → Continues s timeds (done ++ text_of t next a) next rest
+      → Continues s timeds done t (timed ∷ rest) → AnswersTimed site timed t next a → Continues s timeds (done ++ text_of t next a) next rest
   continues_more s timeds done t timed rest next a h does out extent runs =
       subst (λ (l : List ℕ). Runs site s timeds l extent) (sym (append_assoc done (text_of t next a) out)) (h (text_of t next a ++ out) extent (inr (a, next, out, does, runs, refl)))
 

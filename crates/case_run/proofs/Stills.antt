@@ -6,9 +6,9 @@ use Rattle.router_config.specs.declared.site.Site.{Site}
 use Rattle.router_config.specs.declared.config.Request.{Request}
 use Rattle.partial_fetch.specs.declared.answer.Answer.{Answer}
 use Rattle.partial_fetch.specs.Answering.{Answers, refused, answered}
-use Rattle.case_run.specs.declared.still.Still.{Still}
-use Rattle.case_run.specs.Clocks.{told, IsStill}
-use Rattle.case_run.proofs.Standing.{still_since}
+use Rattle.still_clock.specs.declared.still.Still.{Still}
+use Rattle.still_clock.specs.Clocks.{told, IsStill}
+use Rattle.still_clock.proofs.Standing.{still_since}
 
 pub still_is : (site : Site) (request : Request) (s t : Seen) (l m : Line) (moment : ℕ) (c : Still) (a : Answer)
     → Answers site request s t l m (Some (moment ∷ [])) (told c) a → IsStill moment (told c)

@@ -40,6 +40,6 @@ module _ (old new : Outside) (e : Ending) where
   refused_case bytes f is_fault taken is w =
       asks (ends_weaker (IsRefusal (refusal_text f)) (MayWrite old.input.left new.input.left) old.output new.output e (λ out x says. bad bytes f is_fault taken is says) w)
 
-  pub asked : (bytes : List ℕ) (c : Case) → TakesWhole old.input.left new.input.left most bytes → IsCase bytes (Ok (content c)) → EndsWith (Runs c.site (opening c.site.config.limits) c.requests) old.output new.output e → Asks old new e
+  pub asked : (bytes : List ℕ) (c : Case) → TakesWhole old.input.left new.input.left most bytes → IsCase bytes (Ok (content c)) → EndsWith (Runs c.site (opening c.site.config.limits c.replies) c.requests) old.output new.output e → Asks old new e
   asked bytes c taken is w =
-      asks (ends_weaker (Runs c.site (opening c.site.config.limits) c.requests) (MayWrite old.input.left new.input.left) old.output new.output e (λ out x runs. good bytes c taken is runs) w)
+      asks (ends_weaker (Runs c.site (opening c.site.config.limits c.replies) c.requests) (MayWrite old.input.left new.input.left) old.output new.output e (λ out x runs. good bytes c taken is runs) w)

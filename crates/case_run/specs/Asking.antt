@@ -29,8 +29,8 @@ pub data MayWrite (left rest : Option (List ℕ)) (out : List ℕ) (extent : Ext
   too_long : (count : ℕ) → TakesLong left rest most count → IsRefusal (codes "case refused size\n") out extent → MayWrite left rest out extent
   -- taken to its end, it is no case: this is its first fault
   bad : (bytes : List ℕ) (f : CaseFault) → f ≢ fault.Memory → TakesWhole left rest most bytes → IsCase bytes (Err f) → IsRefusal (refusal_text f) out extent → MayWrite left rest out extent
-  -- taken to its end, it is a case, and this may be written for its requests
-  good : (bytes : List ℕ) (c : Case) → TakesWhole left rest most bytes → IsCase bytes (Ok (content c)) → Runs c.site (opening c.site.config.limits) c.requests out extent → MayWrite left rest out extent
+  -- taken to its end, it is a case, and this may be written for its requests over a line that answers by its replies
+  good : (bytes : List ℕ) (c : Case) → TakesWhole left rest most bytes → IsCase bytes (Ok (content c)) → Runs c.site (opening c.site.config.limits c.replies) c.requests out extent → MayWrite left rest out extent
 
 -- the status of an ending
 abbrev pub status_of : Ending → ℕ

@@ -1,4 +1,3 @@
-pub mod Clocks
 pub mod Texts
 pub mod Runs
 pub mod Asking

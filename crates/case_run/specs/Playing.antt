@@ -3,7 +3,6 @@ use Rattle.std.specs.Prelude.{◌≡◌, ℕ, List, [], ◌∷◌, Option, Some,
 use Rattle.std.specs.Io.KnownBytes.{Appends, Keeps}
 use Rattle.flow_base.specs.Causes.{Rose, AppendsFront}
 use Rattle.cache_seam.specs.Seen.{Seen}
-use Rattle.line_base.specs.Lines.{Entry}
 use Rattle.line_base.specs.Told.{Script}
 use Rattle.router_config.specs.declared.site.Site.{Site}
 use Rattle.rehearsal.specs.Outside.{Output}
@@ -11,24 +10,24 @@ use Rattle.partial_fetch.specs.declared.answer.Answer.{Answer}
 use Rattle.case_file.specs.declared.content.Timed.{Timed}
 use Rattle.case_run.specs.declared.ending.Ending.{Ending}
 use Rattle.case_run.specs.declared.ending.Ending.TheVariants as ending
-use Rattle.case_run.specs.Runs.{Standing, Does, text_of}
+use Rattle.case_run.specs.Runs.{Standing, AnswersTimed, text_of}
 
 -- there is one line
 abbrev pub IsOne : List Script → Type 0
 IsOne lines = (line : Script) × (lines ≡ line ∷ [])
 
-abbrev pub log_of : List Script → List Entry
-log_of [] = []
-log_of (line ∷ lines) = line.log
+abbrev pub script_in : List Script → Script
+script_in [] = record { replies = []; log = [] }
+script_in (line ∷ lines) = line
 
 abbrev pub standing : Seen → List Script → Standing
-standing cache lines = record { cache = cache; log = log_of lines }
+standing cache lines = record { cache = cache; line = script_in lines }
 
 -- the answer to a request
 module _ (site : Site) (timed : Timed) (old new : Standing) (before after : Output) where
   abbrev pub PlaysOne : Option Ending → Type 0
-  PlaysOne None = (a : Answer) × Does site timed old new a × Appends before.written after.written (text_of old new a)
-  PlaysOne (Some ending.SinkFailed) = Rose before.faults after.faults × ((a : Answer) × Does site timed old new a × AppendsFront before.written after.written (text_of old new a))
+  PlaysOne None = (a : Answer) × AnswersTimed site timed old new a × Appends before.written after.written (text_of old new a)
+  PlaysOne (Some ending.SinkFailed) = Rose before.faults after.faults × ((a : Answer) × AnswersTimed site timed old new a × AppendsFront before.written after.written (text_of old new a))
   PlaysOne (Some ending.NoMemory) = Keeps before.written after.written
   PlaysOne (Some ending.Finished) = ⊥
   PlaysOne (Some ending.Refused) = ⊥
@@ -36,4 +35,4 @@ module _ (site : Site) (timed : Timed) (old new : Standing) (before after : Outp
 
 -- the text that is to be written for a request that was answered
 abbrev pub Tells : Site → Timed → Standing → Standing → List ℕ → Type 0
-Tells site timed old new text = (a : Answer) × Does site timed old new a × (text ≡ text_of old new a)
+Tells site timed old new text = (a : Answer) × AnswersTimed site timed old new a × (text ≡ text_of old new a)

@@ -19,8 +19,7 @@ const MOST: u64 = 1_048_576;
 /// Reads a whole case, and runs its requests one after the other over one cache and one line, each at its moment. For each
 /// request it writes one line for each call that it makes, `sent SUBGRAPH BODY`; where its answer has status 200, how long
 /// that may be kept, `cache TEXT`; and the answer, `answer STATUS BODY`. The line answers by the case's replies: a call takes
-/// the first unused one of its subgraph, and fails where there is none; this is promised by `ScriptLine::fetch`, and not by the
-/// clauses here, which speak of the answers that the line tells.
+/// the first unused one of its subgraph, and fails where there is none.
 ///
 /// The status is 0 where the requests were all answered, errors in their answers included, 5 where the case is refused, 6
 /// where the source failed, 7 where the sink failed, and 9 for want of memory.
@@ -62,7 +61,8 @@ fn run<S: Source, K: Sink>(alloc: Global, source: &mut S, sink: &mut K) -> Endin
 // Runs a case over a new cache and a new line.
 fn perform<K: Sink>(alloc: Global, case: Case, sink: &mut K) -> Ending
     requires lawful { IsLawful case.site }
-    ensures ends { EndsWith (Runs case.site (opening case.site.config.limits) case.requests)
+    ensures ends { EndsWith (Runs case.site
+        (opening case.site.config.limits case.replies) case.requests)
         (output (K.written sink.old) (K.faults sink.old))
         (output (K.written sink.new) (K.faults sink.new)) result }
     ensures later { K.faults sink.old ≤ K.faults sink.new }

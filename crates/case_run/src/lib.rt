@@ -7,7 +7,6 @@
 mod command;
 mod ending;
 mod play;
-mod still;
 #[cfg(test)]
 mod tests;
 mod texts;

@@ -5,11 +5,10 @@ ghost use Rattle.router_config.specs.Lawful.{IsLawful};
 ghost use Rattle.rehearsal.specs.Outside.{output};
 ghost use Rattle.case_run.specs.Asking.{EndsWith};
 ghost use Rattle.case_run.specs.Runs.{Runs};
-ghost use Rattle.case_run.specs.Playing.{IsOne, log_of, standing, PlaysOne, Tells};
+ghost use Rattle.case_run.specs.Playing.{IsOne, script_in, standing, PlaysOne, Tells};
 ghost use Rattle.line_base.specs.Told.{entries_told};
 
 use crate::ending::Ending;
-use crate::still::Still;
 use crate::texts::request_text;
 use cache_seam::Alone;
 use case_file::Timed;
@@ -18,12 +17,13 @@ use line_base::{ScriptLine, Solo, Told};
 use partial_fetch::run_request;
 use router_config::Site;
 use std::alloc::Global;
+use still_clock::Still;
 
 /// The calls that the one line has told.
 #[tactic(auto, using(crate::proofs::Telling::first_log))]
 fn calls_told(lines: &[ScriptLine]) -> &[Told]
     requires one { IsOne lines.now }
-    ensures { entries_told result.now ≡ log_of lines.now }
+    ensures { entries_told result.now ≡ (script_in lines.now).log }
 {
     lines[0].log().as_slice()
 }
@@ -50,7 +50,8 @@ fn tell(
     requires lawful { IsLawful site.now }
     requires one { IsOne lines.old.items }
     ensures one { IsOne lines.new.items }
-    ensures told { IfOk result (Tells site.now timed.now (standing cache.old lines.old.items) (standing cache.new lines.new.items)) }
+    ensures told { IfOk result (Tells site.now timed.now (standing cache.old lines.old.items)
+        (standing cache.new lines.new.items)) }
 {
     let before = calls_told(lines.as_slice()).len();
     let mut clock = Still {

@@ -223,6 +223,74 @@ fn worked_examples(rt: HostRuntime) {
     }
 }
 
+/// The first reply has another status than 200, and what it holds is not read.
+const OTHER_STATUS: Row = Row {
+    case: SHOP,
+    rest: r#""requests":[{"now":0,"id":null,"query":"{ one { id price } }","variables":{}}],
+"replies":[{"subgraph":"a","status":503,"cacheControl":"max-age=60","age":null,"body":{"data":{"one":{"__typename":"Item","id":"2"}}}}]}"#,
+    output: r#"sent a {"query":"query { one { __typename id } }","variables":{}}
+cache no-store
+answer 200 {"data":{"one":null},"errors":[{"message":"subgraph status","extensions":{"code":"SUBGRAPH_STATUS","subgraph":"a","status":503}}]}
+"#,
+};
+
+/// The second reply has errors beside its data, one of them without a message. So nothing of it is kept, and it is asked for again.
+const ERRORS_BESIDE_DATA: Row = Row {
+    case: SHOP,
+    rest: r#""requests":[{"now":0,"id":null,"query":"{ one { id price } }","variables":{}},{"now":1000,"id":null,"query":"{ one { id price } }","variables":{}}],
+"replies":[
+{"subgraph":"a","status":200,"cacheControl":"max-age=60","age":null,"body":{"data":{"one":{"__typename":"Item","id":"2"}}}},
+{"subgraph":"b","status":200,"cacheControl":"max-age=60","age":null,"body":{"data":{"_entities":[{"price":"2.00"}]},"errors":[{"message":"slow"},{}]}},
+{"subgraph":"b","status":200,"cacheControl":"max-age=60","age":null,"body":{"data":{"_entities":[{"price":"3.00"}]}}}]}"#,
+    output: r#"sent a {"query":"query { one { __typename id } }","variables":{}}
+sent b {"query":"query ( $representations : [ _Any ! ] ! ) { _entities ( representations : $representations ) { ... on Item { price } } }","variables":{"representations":[{"__typename":"Item","id":"2"}]}}
+cache no-store
+answer 200 {"data":{"one":{"id":"2","price":"2.00"}},"errors":[{"message":"slow","path":["one"],"extensions":{"code":"SUBGRAPH_ERROR","subgraph":"b"}},{"message":"subgraph error","path":["one"],"extensions":{"code":"SUBGRAPH_ERROR","subgraph":"b"}}]}
+sent b {"query":"query ( $representations : [ _Any ! ] ! ) { _entities ( representations : $representations ) { ... on Item { price } } }","variables":{"representations":[{"__typename":"Item","id":"2"}]}}
+cache max-age=59, public
+answer 200 {"data":{"one":{"id":"2","price":"3.00"}}}
+"#,
+};
+
+/// One operation with a variable. Requests are refused for a document that can't be read or that ends too early, for an operation
+/// without a plan or of another name, and for a variable that is missing, null or of the wrong kind. The last is answered, and its
+/// reply was not used before.
+const REFUSALS: Row = Row {
+    case: r#"{"schema":"type Query { one(n: Int): Int }","subgraphs":[{"name":"a","cached":true}],"events":64,"bytes":4096,"plans":[
+{"operation":"query One($n: Int!) { one(n: $n) }","plan":{"kind":"Fetch","subgraph":"a","operation":"query ($n: Int!) { one(n: $n) }","variables":["n"]}}],
+"#,
+    rest: r#""requests":[
+{"now":0,"id":null,"query":"{a}}","variables":{}},
+{"now":0,"id":null,"query":"{","variables":{}},
+{"now":0,"id":null,"query":"{ one(n: 1) }","variables":{}},
+{"now":0,"id":null,"query":"query Two($n: Int!) { one(n: $n) }","variables":{"n":1}},
+{"now":0,"id":null,"query":"query One($n: Int!) { one(n: $n) }","variables":{}},
+{"now":0,"id":null,"query":"query One($n: Int!) { one(n: $n) }","variables":{"n":null}},
+{"now":0,"id":null,"query":"query One($n: Int!) { one(n: $n) }","variables":{"n":1.5}},
+{"now":0,"id":null,"query":"query One($n: Int!) { one(n: $n) }","variables":{"n":1}}],
+"replies":[{"subgraph":"a","status":200,"cacheControl":"max-age=60","age":null,"body":{"data":{"one":7}}}]}"#,
+    output: r#"answer 400 {"errors":[{"message":"document not readable","extensions":{"code":"BAD_DOCUMENT","at":3}}]}
+answer 400 {"errors":[{"message":"document not readable","extensions":{"code":"BAD_DOCUMENT","at":1}}]}
+answer 400 {"errors":[{"message":"operation has no plan","extensions":{"code":"OPERATION_UNKNOWN"}}]}
+answer 400 {"errors":[{"message":"operation has no plan","extensions":{"code":"OPERATION_UNKNOWN"}}]}
+answer 400 {"errors":[{"message":"variable refused","extensions":{"code":"BAD_VARIABLES","variable":"n","cause":"missing"}}]}
+answer 400 {"errors":[{"message":"variable refused","extensions":{"code":"BAD_VARIABLES","variable":"n","cause":"null"}}]}
+answer 400 {"errors":[{"message":"variable refused","extensions":{"code":"BAD_VARIABLES","variable":"n","cause":"kind"}}]}
+sent a {"query":"query ( $n : Int ! ) { one ( n : $n ) }","variables":{"n":1}}
+cache max-age=60, public
+answer 200 {"data":{"one":7}}
+"#,
+};
+
+#[test]
+fn what_goes_wrong_is_told(rt: HostRuntime) {
+    let alloc = rt.alloc();
+    let rows = [OTHER_STATUS, ERRORS_BESIDE_DATA, REFUSALS];
+    for row in &rows {
+        assert!(rt; writes(alloc, row));
+    }
+}
+
 /// Whether a case of these bytes is refused with this line.
 fn refuses(alloc: Global, bytes: Vec<u8>, line: &str) -> bool {
     match run_case(alloc, bytes, Vec::new(alloc), Vec::new(alloc)) {

@@ -42,7 +42,8 @@ fn member_refusal(member: CaseMember) -> &'static str
 }
 
 fn put_call(alloc: Global, text: &mut String, call: &Call) -> Result<(), Memory>
-    ensures { OnOk result (string_bytes text.new ≡ string_bytes text.old ++ spec.call_text call.now) }
+    ensures { OnOk result (string_bytes text.new ≡ string_bytes text.old
+        ++ spec.call_text call.now) }
 {
     let name = call.name.as_str();
     let body = call.body.as_str();
@@ -52,7 +53,8 @@ fn put_call(alloc: Global, text: &mut String, call: &Call) -> Result<(), Memory>
 }
 
 fn put_calls(alloc: Global, text: &mut String, calls: &[Told]) -> Result<(), Memory>
-    ensures { OnOk result (string_bytes text.new ≡ string_bytes text.old ++ spec.sent_text (entries_told calls.now)) }
+    ensures { OnOk result (string_bytes text.new ≡ string_bytes text.old
+        ++ spec.sent_text (entries_told calls.now)) }
 {
     for told in calls {
         put_call(alloc, text, &told.call)?;
@@ -61,7 +63,8 @@ fn put_calls(alloc: Global, text: &mut String, calls: &[Told]) -> Result<(), Mem
 }
 
 fn put_lasting(alloc: Global, text: &mut String, answer: &Answer) -> Result<(), Memory>
-    ensures { OnOk result (string_bytes text.new ≡ string_bytes text.old ++ spec.cache_text answer.now) }
+    ensures { OnOk result (string_bytes text.new ≡ string_bytes text.old
+        ++ spec.cache_text answer.now) }
 {
     if answer.status != 200 {
         return Ok(());
@@ -75,7 +78,8 @@ fn put_lasting(alloc: Global, text: &mut String, answer: &Answer) -> Result<(), 
 }
 
 fn put_answer(alloc: Global, text: &mut String, answer: &Answer) -> Result<(), Memory>
-    ensures { OnOk result (string_bytes text.new ≡ string_bytes text.old ++ spec.status_text answer.now) }
+    ensures { OnOk result (string_bytes text.new ≡ string_bytes text.old
+        ++ spec.status_text answer.now) }
 {
     let status = answer.status;
     let body = answer.body.as_str();

@@ -28,7 +28,8 @@ pub fn ask_of(
     variables: &Json,
 ) -> Result<(Ask, Vec<Key>), Memory>
     ensures keys { IfOk result (λ r. r.1.items ≡ spec.keys_of fetch.now asked.now variables.now) }
-    ensures ask { IfOk result (λ r. r.0 ≡ spec.ask_of sub uncached fetch.now asked.now variables.now) }
+    ensures ask { IfOk result
+        (λ r. r.0 ≡ spec.ask_of sub uncached fetch.now asked.now variables.now) }
 
     // The call for some of the pieces has the text of a JSON object as its body.
     ensures bodies { IfOk result (λ r. HasBodies r.0 fetch.now asked.now variables.now) }
@@ -72,7 +73,8 @@ fn are_entities(asked: &Asked) -> bool
 
 /// The operation and its variables, as all keys of the fetch have them.
 fn sel_of(alloc: Global, fetch: &Fetch, members: &str) -> Result<Text, Memory>
-    ensures { (variables : Json) → members.now ≡ members_text (picked fetch.now.variables variables) →
+    ensures { (variables : Json)
+        → members.now ≡ members_text (picked fetch.now.variables variables) →
         IfOk result (λ t. t ≡ spec.sel_of fetch.now variables) }
 {
     let mut out = String::from_str(alloc, fetch.sel.as_str())?;
@@ -123,7 +125,8 @@ fn key_of(
     rep: Text,
     sel: &Text,
 ) -> Result<Key, Memory>
-    ensures { IfOk result (λ key. key ≡ record { sub = fetch.now.sub; type_name = type_name.now; rep = rep; sel = sel.now }) }
+    ensures { IfOk result (λ key. key
+        ≡ record { sub = fetch.now.sub; type_name = type_name.now; rep = rep; sel = sel.now }) }
 {
     Ok(Key {
         sub: fetch.sub.copy()?,

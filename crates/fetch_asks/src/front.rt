@@ -19,7 +19,8 @@ pub fn front_of(
     asked: &Asked,
     members: String,
 ) -> Result<Text, Memory>
-    ensures { (variables : Json) → string_bytes members ≡ members_text (picked fetch.now.variables variables) →
+    ensures { (variables : Json) → string_bytes members
+        ≡ members_text (picked fetch.now.variables variables) →
         IfOk result (λ t. t ≡ spec.front_of fetch.now asked.now variables) }
 {
     let mut members = members;

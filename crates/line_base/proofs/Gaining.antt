@@ -13,7 +13,9 @@ use Rattle.line_base.specs.declared.line.LineFault.{LineFault}
 use Rattle.line_base.specs.declared.line.LineFault.TheVariants as fault
 use Rattle.flow_base.specs.Logs.{Grows}
 use Rattle.line_base.specs.declared.lane.Work.{Work}
-use Rattle.line_base.specs.Lines.{Line, Entry, Fetches, Gains, IsCounted, IsLong, told_by, names_of, calls_after, failures}
+use Rattle.line_base.specs.declared.script.Scripted.{Scripted}
+use Rattle.line_base.specs.Foretold.{IsForetold}
+use Rattle.line_base.specs.Lines.{Line, Entry, Fetches, Gains, AreServed, IsCounted, IsLong, told_by, names_of, calls_after, failures}
 use Rattle.line_base.specs.Lanes.{AreFetched, told_by_all}
 
 pub grows_none : {A : Type 0} (log : Option (List A)) → Grows log log []
@@ -39,7 +41,11 @@ failures_append sub [] fs = omega arith
 failures_append sub (e ∷ es) fs = omega (arith, failures_append sub es fs)
 
 pub gains_none : (l : Line) → Gains l [] l
-gains_none l = record { told = grows_none l.log; calls = refl; faults = λ sub. (omega arith, omega arith); long = All-nil (λ (e : Entry). IsLong e.answer) }
+gains_none l = record { told = grows_none l.log; calls = refl; faults = λ sub. (omega arith, omega arith); long = All-nil (λ (e : Entry). IsLong e.answer); foretold = refl }
+
+served_trans : (a b c : Option (List Scripted)) (es fs : List Entry) → AreServed a es b → AreServed b fs c → AreServed a (es ++ fs) c
+served_trans a b c [] fs h k = subst (λ (o : Option (List Scripted)). AreServed o fs c) h k
+served_trans a b c (e ∷ es) fs (mid, first, rest) k = (mid, first, served_trans mid b c es fs rest k)
 
 pub gains_trans : (a b c : Line) (es fs : List Entry) → Gains a es b → Gains b fs c → Gains a (es ++ fs) c
 gains_trans a b c es fs h k = record {
@@ -47,6 +53,7 @@ gains_trans a b c es fs h k = record {
   calls = k.calls ∙ ap (λ (n : ℕ). calls_after n fs) h.calls ∙ sym (calls_append a.calls es fs);
   faults = λ sub. faults_trans sub;
   long = All-append (λ (e : Entry). IsLong e.answer) es fs h.long k.long;
+  foretold = served_trans a.foretold b.foretold c.foretold es fs h.foretold k.foretold;
 }
   where
     faults_trans : (sub : ℕ) → (a.faults sub ≤ c.faults sub) × (min (a.faults sub + failures sub (es ++ fs)) (2 ^ 64 - 1) ≤ c.faults sub)
@@ -63,6 +70,11 @@ one_failure sub at before after n later rose = by_test (at == sub) refl
     by_test true test = let same : at ≡ sub = grind (arith, nat_tests) in omega (arith, rose same)
     by_test false test = omega (arith, later)
 
+-- for want of memory no entry is used
+unserved : (old : Option (List Scripted)) (call : calls.Call) (new : Option (List Scripted)) → IsForetold old call (Err fault.Memory) new → new ≡ old
+unserved None call new h = h
+unserved (Some ss) call new h = h
+
 -- one fetch, as its log tells it
 pub gains_fetch : (old : Line) (permits : List Granted) (call : calls.Call) (answer : Result Reply LineFault) (new : Line) → Fetches old permits call answer new → Gains old (told_by answer (record { permits = names_of permits; call = call; answer = answer })) new
 gains_fetch old permits call (Ok reply) new h = record {
@@ -70,24 +82,28 @@ gains_fetch old permits call (Ok reply) new h = record {
   calls = h.calls;
   faults = λ sub. (h.later sub, one_failure sub call.sub (old.faults sub) (new.faults sub) 0 (h.later sub) (λ _. omega (arith, h.later sub)));
   long = All-cons (λ (e : Entry). IsLong e.answer) (record { permits = names_of permits; call = call; answer = Ok reply }) [] tt (All-nil (λ (e : Entry). IsLong e.answer));
+  foretold = (new.foretold, h.foretold, refl);
 }
 gains_fetch old permits call (Err fault.Failed) new h = record {
   told = h.told;
   calls = h.calls;
   faults = λ sub. (h.later sub, one_failure sub call.sub (old.faults sub) (new.faults sub) 1 (h.later sub) (λ same. subst (λ (s : ℕ). Rose (old.faults s) (new.faults s)) same h.cause));
   long = All-cons (λ (e : Entry). IsLong e.answer) (record { permits = names_of permits; call = call; answer = Err fault.Failed }) [] tt (All-nil (λ (e : Entry). IsLong e.answer));
+  foretold = (new.foretold, h.foretold, refl);
 }
 gains_fetch old permits call (Err (fault.TooLong n)) new h = record {
   told = h.told;
   calls = h.calls;
   faults = λ sub. (h.later sub, one_failure sub call.sub (old.faults sub) (new.faults sub) 0 (h.later sub) (λ _. omega (arith, h.later sub)));
   long = All-cons (λ (e : Entry). IsLong e.answer) (record { permits = names_of permits; call = call; answer = Err (fault.TooLong n) }) [] h.cause (All-nil (λ (e : Entry). IsLong e.answer));
+  foretold = (new.foretold, h.foretold, refl);
 }
 gains_fetch old permits call (Err fault.Memory) new h = record {
   told = h.told;
   calls = h.calls;
   faults = λ sub. (h.later sub, omega (arith, h.later sub));
   long = All-nil (λ (e : Entry). IsLong e.answer);
+  foretold = unserved old.foretold call new.foretold h.foretold;
 }
 
 -- PLACES IN A LOG

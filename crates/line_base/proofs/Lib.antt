@@ -1,3 +1,3 @@
 pub mod Gaining
-pub mod Telling
+pub mod Scripts
 pub mod TestLanes

@@ -1,3 +1,4 @@
+pub mod Foretold
 pub mod Lines
 pub mod Told
 pub mod Lanes

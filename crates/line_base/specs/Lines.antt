@@ -8,6 +8,8 @@ use Rattle.cache_book.specs.Permits.{Granted}
 use Rattle.line_base.specs.declared.line.Call as calls
 use Rattle.line_base.specs.declared.line.LineFault.{LineFault}
 use Rattle.line_base.specs.declared.line.LineFault.TheVariants as fault
+use Rattle.line_base.specs.declared.script.Scripted.{Scripted}
+use Rattle.line_base.specs.Foretold.{IsForetold}
 use Rattle.flow_base.specs.Logs.{Grows}
 
 -- what names a permit to the outside
@@ -52,6 +54,8 @@ pub record Line : Type 0 where
   pub calls : ℕ
   -- how often it has failed for a subgraph, up to the greatest number of 64 bits
   pub faults : ℕ → ℕ
+  -- what it will answer, where that is told
+  pub foretold : Option (List Scripted)
 
 -- a log that is told has an entry for each call
 abbrev pub IsCounted : Line → Type 0
@@ -72,6 +76,7 @@ pub record Fetches (old : Line) (permits : List Granted) (call : calls.Call) (an
   pub calls : new.calls ≡ calls_after old.calls (told_of (record { permits = names_of permits; call = call; answer = answer }))
   pub later : (sub : ℕ) → old.faults sub ≤ new.faults sub
   pub cause : HasCause old call answer new
+  pub foretold : IsForetold old.foretold call answer new.foretold
 
 -- CHAINS OF FETCHES
 
@@ -93,9 +98,15 @@ IsLong (Err fault.Failed) = Unit {0}
 IsLong (Err fault.Memory) = Unit {0}
 IsLong (Ok reply) = Unit {0}
 
+-- their answers were foretold, one after the other
+abbrev pub AreServed : Option (List Scripted) → List Entry → Option (List Scripted) → Type 0
+AreServed old [] new = new ≡ old
+AreServed old (e ∷ es) new = (mid : Option (List Scripted)) × IsForetold old e.call e.answer mid × AreServed mid es new
+
 -- over the line these fetches were made, in order, and no others but such as found no memory
 pub record Gains (old : Line) (entries : List Entry) (new : Line) : Type 0 where
   pub told : Grows old.log new.log entries
   pub calls : new.calls ≡ calls_after old.calls entries
   pub faults : (sub : ℕ) → (old.faults sub ≤ new.faults sub) × (min (old.faults sub + failures sub entries) (2 ^ 64 - 1) ≤ new.faults sub)
   pub long : All (λ (e : Entry). IsLong e.answer) entries
+  pub foretold : AreServed old.foretold entries new.foretold

@@ -9,15 +9,12 @@ use Rattle.cache_book.specs.Permits.{Granted}
 use Rattle.line_base.specs.declared.line.Call as calls
 use Rattle.line_base.specs.declared.script.Scripted.{Scripted}
 use Rattle.line_base.specs.declared.script.Told.{Told}
+use Rattle.line_base.specs.Foretold.{answer_told, answer_for, left_for}
 use Rattle.line_base.specs.Lines.{Named, Entry, Line, names_of, failures}
 
 abbrev pub names_told : List (ℕ × Mark × Key) → List Named
 names_told [] = []
 names_told (n ∷ ns) = record { epoch = n.0; mark = n.1; key = n.2 } ∷ names_told ns
-
-abbrev pub answer_told : Option Reply → Result Reply LineFault
-answer_told None = Err fault.Failed
-answer_told (Some reply) = Ok reply
 
 abbrev pub entry_of : Told → Entry
 entry_of t = record { permits = names_told t.permits.items; call = t.call; answer = answer_told t.reply }
@@ -26,30 +23,19 @@ abbrev pub entries_told : List Told → List Entry
 entries_told [] = []
 entries_told (t ∷ ts) = entry_of t ∷ entries_told ts
 
--- the line: its log is told while its calls can be counted
-abbrev pub script_line : List Entry → Line
-script_line es = record {
-  log = if nat_lt (length es) (2 ^ 64 - 1) then Some es else None;
-  calls = min (length es) (2 ^ 64 - 1);
-  faults = λ sub. min (failures sub es) (2 ^ 64 - 1);
-}
-
--- WHICH ENTRY ANSWERS
-
 -- a line for tests: the unused entries, and what it has told
 pub record Script : Type 0 where
   pub replies : List Scripted
   pub log : List Entry
 
--- what the first entry of the subgraph answers; none in it, or no entry of the subgraph, is no answer
-abbrev pub answer_for : ℕ → List Scripted → Option Reply
-answer_for sub [] = None
-answer_for sub (s ∷ ss) = if s.sub == sub then s.reply else answer_for sub ss
-
--- the entries without that one, which stand as before
-abbrev pub left_for : ℕ → List Scripted → List Scripted
-left_for sub [] = []
-left_for sub (s ∷ ss) = if s.sub == sub then ss else s ∷ left_for sub ss
+-- the line: its log is told while its calls can be counted, and its unused entries foretell its answers
+abbrev pub script_line : Script → Line
+script_line s = record {
+  log = if nat_lt (length s.log) (2 ^ 64 - 1) then Some s.log else None;
+  calls = min (length s.log) (2 ^ 64 - 1);
+  faults = λ sub. min (failures sub s.log) (2 ^ 64 - 1);
+  foretold = Some s.replies;
+}
 
 -- the call is answered by that entry, which is used, and is told
 pub record ServesOne (old : Script) (permits : List Granted) (call : calls.Call) (answer : Result Reply LineFault) (new : Script) : Type 0 where

@@ -31,9 +31,11 @@ impl<L: Line> Model for Lane<L> {
 
     ghost Value = { LaneOf L };
 
-    ghost view = { λ l. record { line = l.line; works = l.works.items; answers = l.answers.items } };
+    ghost view = { λ l. record
+        { line = l.line; works = l.works.items; answers = l.answers.items } };
 
-    ghost invariant = { λ l. (length l.works.items ≤ vec_capacity l.answers) × All IsAsked l.works.items };
+    ghost invariant = { λ l. (length l.works.items ≤ vec_capacity l.answers)
+        × All IsAsked l.works.items };
 }
 
 /// Fetches each work over the line, in order.
@@ -69,7 +71,8 @@ impl<L: Line> Lane<L> {
     /// lane is as before.
     pub fn add(&mut self, work: Work) -> Result<(), Unplaced>
         requires { IsAsked work }
-        ensures ok { OnOk result (self.new ≡ record self.old { works = self.old.works ++ work ∷ [] }) }
+        ensures ok { OnOk result (self.new
+            ≡ record self.old { works = self.old.works ++ work ∷ [] }) }
         ensures err { IfErr result (λ u. (u.work ≡ work) × (self.new ≡ self.old)) }
     {
         if let Err(failed) = self.works.push(work) {

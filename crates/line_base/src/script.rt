@@ -2,7 +2,8 @@ ghost use Rattle.std.specs.Prelude.{◌≡◌, ◌==◌, ◌&&◌, is_none, coun
 ghost use Rattle.std.specs.Option.{option_copied};
 ghost use Rattle.std.specs.Prelude.{◌++◌, ◌∷◌, [], OnOk, OnErr};
 ghost use Rattle.line_base.specs.Lines.{names_of};
-ghost use Rattle.line_base.specs.Told.{names_told, entries_told, answer_told, entry_of, answer_for, left_for};
+ghost use Rattle.line_base.specs.Foretold.{answer_told, answer_for, left_for};
+ghost use Rattle.line_base.specs.Told.{names_told, entries_told, entry_of};
 
 use crate::{Call, Line, LineFault};
 use cache_book::Permit;
@@ -63,7 +64,8 @@ fn copy_call(call: &Call) -> Result<Call, Memory>
     })
 }
 
-fn copy_reply(alloc: Global, reply: &Reply) -> Result<Reply, Memory>
+/// An equal reply. Fails only for want of memory.
+pub fn copy_reply(alloc: Global, reply: &Reply) -> Result<Reply, Memory>
     ensures { IfOk result (λ copy. copy ≡ reply.now) }
 {
     Ok(Reply {
@@ -74,7 +76,7 @@ fn copy_reply(alloc: Global, reply: &Reply) -> Result<Reply, Memory>
     })
 }
 
-#[tactic(auto, using(crate::proofs::Telling::names_push, crate::proofs::Telling::names_step))]
+#[tactic(auto, using(crate::proofs::Scripts::names_push, crate::proofs::Scripts::names_step))]
 fn copy_names(alloc: Global, permits: &[Permit]) -> Result<Vec<(u64, Mark, Key)>, Memory>
     ensures { IfOk result (λ names. names_told names.items ≡ names_of permits.now) }
 {
@@ -108,10 +110,11 @@ impl ScriptLine {
     }
 }
 
-/// Appends to the log, or leaves it as it is for want of memory.
-#[tactic(auto, using(crate::proofs::Telling::entries_push))]
-fn tell(log: &mut Vec<Told>, told: Told) -> Result<(), Memory>
-    ensures ok { OnOk result (entries_told log.new.items ≡ entries_told log.old.items ++ entry_of told ∷ []) }
+/// Appends a call to the log of a line, or leaves the log as it is for want of memory.
+#[tactic(auto, using(crate::proofs::Scripts::entries_push))]
+pub fn tell(log: &mut Vec<Told>, told: Told) -> Result<(), Memory>
+    ensures ok { OnOk result (entries_told log.new.items ≡ entries_told log.old.items
+        ++ entry_of told ∷ []) }
     ensures err { OnErr result (log.new.items ≡ log.old.items) }
 {
     log.push(told)?;
@@ -144,7 +147,7 @@ fn take(replies: &mut Vec<Scripted>, sub: u64) -> Option<Reply>
 }
 
 /// How many calls to the subgraph failed.
-fn failed_calls(log: &[Told], sub: u64) -> usize
+pub fn failed_calls(log: &[Told], sub: u64) -> usize
     ensures { result ≡ count_by (λ told. (told.call.sub == sub) && is_none told.reply) log.now }
 {
     log.iter()
@@ -171,14 +174,20 @@ fn copy_some(alloc: Global, reply: Option<&Reply>) -> Result<Option<Reply>, Memo
     }
 }
 
-/// What is told of a call.
-fn telling(
+/// What a line tells of a call with this reply; without one it failed. Fails only for want of memory.
+pub fn telling(
     alloc: Global,
     permits: &[Permit],
     call: &Call,
     reply: Option<&Reply>,
 ) -> Result<Told, Memory>
-    ensures { IfOk result (λ t. entry_of t ≡ record { permits = names_of permits.now; call = call.now; answer = answer_told (option_copied reply.entry) }) }
+    ensures { IfOk result (λ t. entry_of t
+        ≡ record {
+          permits = names_of permits.now;
+          call = call.now;
+          answer = answer_told
+              (option_copied reply.entry);
+        }) }
 {
     Ok(Told {
         permits: copy_names(alloc, permits)?,
@@ -192,11 +201,12 @@ impl Line for ScriptLine {
     ghost use Rattle.line_base.specs.Lines.{Fetches};
     ghost use Rattle.line_base.specs.Told.{script_line, Serves};
 
-    ghost line = { λ s. script_line s.log };
+    ghost line = { λ s. script_line s };
 
     /// Takes the first unused entry of the call's subgraph; for want of memory it takes none.
     fn fetch(&mut self, permits: &[Permit], call: &Call) -> Result<Reply, LineFault>
-        ensures fetches { Fetches (script_line self.old.log) permits.now call.now result (script_line self.new.log) }
+        ensures fetches { Fetches (script_line self.old) permits.now call.now result
+            (script_line self.new) }
         ensures serves { Serves self.old permits.now call.now result self.new }
     {
         match telling(self.alloc, permits, call, peek(&self.replies, call.sub)) {

@@ -43,7 +43,8 @@ pub fn unread(query: &Text, fault: GqlFault) -> Result<Refusal, Memory>
 
 /// Why a request with this fault in its variables is refused. Want of memory is handed on.
 pub fn unfit(fault: VarFault) -> Result<Refusal, Memory>
-    ensures why { IfOk result (λ r. r ≡ refusals.BadVariables (spec.variable_of fault) (spec.cause_of fault)) }
+    ensures why { IfOk result
+        (λ r. r ≡ refusals.BadVariables (spec.variable_of fault) (spec.cause_of fault)) }
     ensures memory { IfOk result (λ r. fault ≢ wrong.Memory) }
 {
     match fault {

@@ -39,7 +39,8 @@ fn answer_plan<C: Cache, L: Line, T: Clock>(
 ) -> Result<Answer, Memory>
     requires lawful { IsLawful site.now }
     requires accepted { IsAccepted site.now request.now entry.now variables.now }
-    ensures ok { IfOk result (λ a. Answers site.now request.now (C.seen cache.old) (C.seen cache.new)
+    ensures ok { IfOk result
+        (λ a. Answers site.now request.now (C.seen cache.old) (C.seen cache.new)
         (L.line line.old) (L.line line.new) (T.log clock.old) (T.log clock.new) a) }
     ensures err { OnErr result (RunsOut site.now request.now (C.seen cache.old) (C.seen cache.new)
         (L.line line.old) (L.line line.new) (T.log clock.old) (T.log clock.new)) }
@@ -74,7 +75,8 @@ fn answer_entry<C: Cache, L: Line, T: Clock>(
 ) -> Result<Answer, Memory>
     requires lawful { IsLawful site.now }
     requires planned { HasPlan site.now request.now entry.now }
-    ensures ok { IfOk result (λ a. Answers site.now request.now (C.seen cache.old) (C.seen cache.new)
+    ensures ok { IfOk result
+        (λ a. Answers site.now request.now (C.seen cache.old) (C.seen cache.new)
         (L.line line.old) (L.line line.new) (T.log clock.old) (T.log clock.new) a) }
     ensures err { OnErr result (RunsOut site.now request.now (C.seen cache.old) (C.seen cache.new)
         (L.line line.old) (L.line line.new) (T.log clock.old) (T.log clock.new)) }
@@ -101,7 +103,8 @@ fn answer_document<C: Cache, L: Line, T: Clock>(
 ) -> Result<Answer, Memory>
     requires lawful { IsLawful site.now }
     requires read { IsText document.now request.now.query }
-    ensures ok { IfOk result (λ a. Answers site.now request.now (C.seen cache.old) (C.seen cache.new)
+    ensures ok { IfOk result
+        (λ a. Answers site.now request.now (C.seen cache.old) (C.seen cache.new)
         (L.line line.old) (L.line line.new) (T.log clock.old) (T.log clock.new) a) }
     ensures err { OnErr result (RunsOut site.now request.now (C.seen cache.old) (C.seen cache.new)
         (L.line line.old) (L.line line.new) (T.log clock.old) (T.log clock.new)) }
@@ -123,7 +126,8 @@ fn answer_request<C: Cache, L: Line, T: Clock>(
     request: &Request,
 ) -> Result<Answer, Memory>
     requires lawful { IsLawful site.now }
-    ensures ok { IfOk result (λ a. Answers site.now request.now (C.seen cache.old) (C.seen cache.new)
+    ensures ok { IfOk result
+        (λ a. Answers site.now request.now (C.seen cache.old) (C.seen cache.new)
         (L.line line.old) (L.line line.new) (T.log clock.old) (T.log clock.new) a) }
     ensures err { OnErr result (RunsOut site.now request.now (C.seen cache.old) (C.seen cache.new)
         (L.line line.old) (L.line line.new) (T.log clock.old) (T.log clock.new)) }

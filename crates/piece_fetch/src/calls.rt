@@ -63,7 +63,8 @@ fn copy_id(id: Option<&Text>) -> Result<Option<Text>, Memory>
 
 /// The call for the pieces of these permits.
 fn call_of(alloc: Global, id: Option<&Text>, ask: &Ask, permits: &[Permit]) -> Result<Call, Memory>
-    ensures { IfOk result (λ call. call ≡ asking.call_of ask.now (option_copied id.entry) permits.now) }
+    ensures { IfOk result (λ call. call
+        ≡ asking.call_of ask.now (option_copied id.entry) permits.now) }
 {
     let body = body_of(alloc, ask, permits)?;
     let id = copy_id(id)?;

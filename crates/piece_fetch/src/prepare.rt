@@ -40,7 +40,8 @@ pub fn prepare<L: Line>(
     requires named { All (λ p. p.key.sub ≡ ask.now.name) permits.now }
     requires count { asked_count slots.items ≡ length permits.now }
     requires readable { All IsReadable slots.items }
-    ensures ok { IfOk result (λ w. Works ask.now (option_copied id.entry) number slots.items permits.now
+    ensures ok { IfOk result (λ w. Works ask.now
+        (option_copied id.entry) number slots.items permits.now
         (L.line line.old) (L.line line.new) w) }
     ensures err { OnErr result (MayHaveSent ask.now (option_copied id.entry) permits.now
         (L.line line.old) (L.line line.new)) }

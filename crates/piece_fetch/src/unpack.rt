@@ -136,7 +136,8 @@ fn unpack_pieces(
 }
 
 fn causes_of(alloc: Global, errors: Vec<Text>) -> Result<Vec<Cause>, Memory>
-    ensures { IfOk result (λ causes. causes.items ≡ map (λ text. Cause.Subgraph text) errors.items) }
+    ensures { IfOk result
+        (λ causes. causes.items ≡ map (λ text. Cause.Subgraph text) errors.items) }
 {
     let mut causes = Vec::new(alloc);
     'listing: for text in errors {

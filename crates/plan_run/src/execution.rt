@@ -28,8 +28,12 @@ pub fn execute<C: Cache, L: Line, T: Clock>(
 ) -> Result<(Json, Outcome), Memory>
     requires lawful { IsLawful plan.now }
     requires known { AreFrom subgraphs.now plan.now.fetches }
-    ensures ok { IfOk result (λ r. RunsPlan plan.now subgraphs.now variables.now (option_copied id.entry) number (C.seen cache.old) (C.seen cache.new) (L.line line.old) (L.line line.new) (T.log clock.old) (T.log clock.new) r.0 r.1) }
-    ensures err { OnErr result (DropsPlan plan.now subgraphs.now variables.now (option_copied id.entry) number (C.seen cache.old) (C.seen cache.new) (L.line line.old) (L.line line.new) (T.log clock.old) (T.log clock.new)) }
+    ensures ok { IfOk result (λ r. RunsPlan plan.now subgraphs.now variables.now
+        (option_copied id.entry) number (C.seen cache.old) (C.seen cache.new) (L.line line.old)
+        (L.line line.new) (T.log clock.old) (T.log clock.new) r.0 r.1) }
+    ensures err { OnErr result (DropsPlan plan.now subgraphs.now variables.now
+        (option_copied id.entry) number (C.seen cache.old) (C.seen cache.new) (L.line line.old)
+        (L.line line.new) (T.log clock.old) (T.log clock.new)) }
 {
     let mut fetches = PlanFetches::start(alloc, plan, subgraphs, variables)?;
     let outcome = run_plan(alloc, &mut fetches, cache, line, number, clock, id)?;

@@ -33,9 +33,16 @@ impl<'a> Model for PlanFetches<'a> {
 
     ghost Value = { Execution };
 
-    ghost coded = { Prim.hlevel (codes, node_row.the_row.coded, need_row.the_row.coded, json_row.the_row.coded) };
+    ghost coded = { Prim.hlevel
+        (codes, node_row.the_row.coded, need_row.the_row.coded, json_row.the_row.coded) };
 
-    ghost view = { λ f. record { plan = f.plan.now; subgraphs = f.subgraphs.now; variables = f.variables.now; given = map given_pieces f.machine.given } };
+    ghost view = { λ f. record {
+      plan = f.plan.now;
+      subgraphs = f.subgraphs.now;
+      variables = f.variables.now;
+      given = map
+          given_pieces f.machine.given;
+    } };
 
     ghost invariant = { λ f. IsSound f.plan.now f.subgraphs.now f.machine };
 }
@@ -56,7 +63,14 @@ impl<'a> PlanFetches<'a> {
     ) -> Result<PlanFetches<'a>, Memory>
         requires lawful { IsLawful plan.now }
         requires known { AreFrom subgraphs.now plan.now.fetches }
-        ensures { IfOk result (λ f. f ≡ record { plan = plan.now; subgraphs = subgraphs.now; variables = variables.now; given = [] }) }
+        ensures { IfOk result (λ f. f
+            ≡ record {
+              plan = plan.now;
+              subgraphs = subgraphs.now;
+              variables = variables.now;
+              given
+                  = [];
+            }) }
     {
         let machine = Machine::start(alloc, plan)?;
         Ok(PlanFetches {

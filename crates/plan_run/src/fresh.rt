@@ -19,7 +19,8 @@ pub fn run_fresh<P: Plan, L: Line, T: Clock>(
     id: Option<&Text>,
 ) -> Result<Outcome, Memory>
     requires { IsWithinRanges limits }
-    ensures { IfOk result (λ o. (calls : List Call) × (answers : List Answer) × (end : State) × Run (opened limits 0) calls answers end) }
+    ensures { IfOk result (λ o. (calls : List Call) × (answers : List Answer) × (end : State)
+        × Run (opened limits 0) calls answers end) }
 {
     let mut cache = Alone::open(alloc, limits)?;
     run_plan(alloc, plan, &mut cache, line, 0, clock, id)

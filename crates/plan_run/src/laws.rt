@@ -13,7 +13,11 @@ use recorded_hits::{looks_find_what_is_recorded, recorded_hits_stay};
 /// same caller, with no covering invalidation between that fetch's start and the lookup. So it stands in the journal that
 /// is seen when the request is done.
 pub fn found_pieces_stand()
-    ensures { (next : List (List Json) → Option Wanted) (given now : List (List Json)) (id : Option (List ℕ)) (number : ℕ) (old new : Seen) (l m : lines.Line) (before after : Option (List ℕ)) (o : Outcome) (h : DoesRequest next given now id number old new l m before after o) → AllFound new.journal h.pass id h.tasks h.done }
+    ensures { (next : List (List Json) → Option Wanted) (given now : List (List Json))
+        (id : Option (List ℕ)) (number : ℕ) (old new : Seen) (l m : lines.Line)
+        (before after : Option (List ℕ)) (o : Outcome)
+        (h : DoesRequest next given now id number old new l m before after o)
+        → AllFound new.journal h.pass id h.tasks h.done }
 {
     looks_find_what_is_recorded();
     recorded_hits_stay();

@@ -50,9 +50,14 @@ impl Outcome {
         places: &[Items<Place>],
         fetched: Fetched,
     ) -> Result<Vec<Json>, Memory>
-        ensures receipts { IfOk result (λ _. self.new.receipts.items ≡ self.old.receipts.items ++ receipts_from fetch 0 fetched.origins.items) }
-        ensures lasts { IfOk result (λ _. self.new.lasts.items ≡ self.old.lasts.items ++ fetched.lasts.items) }
-        ensures errors { IfOk result (λ _. self.new.errors.items ≡ self.old.errors.items ++ errors_from fetch sub (path_of places.now fetched.first_sent) fetched.causes.items) }
+        ensures receipts { IfOk result
+            (λ _. self.new.receipts.items ≡ self.old.receipts.items
+            ++ receipts_from fetch 0 fetched.origins.items) }
+        ensures lasts { IfOk result
+            (λ _. self.new.lasts.items ≡ self.old.lasts.items ++ fetched.lasts.items) }
+        ensures errors { IfOk result
+            (λ _. self.new.errors.items ≡ self.old.errors.items
+            ++ errors_from fetch sub (path_of places.now fetched.first_sent) fetched.causes.items) }
         ensures pieces { IfOk result (λ pieces. pieces.items ≡ fetched.pieces.items) }
     {
         let Fetched {
@@ -72,7 +77,8 @@ impl Outcome {
 
 /// Adds the receipts of a fetch.
 fn add_receipts(receipts: &mut Vec<Receipt>, fetch: u64, origins: Vec<Origin>) -> Result<(), Memory>
-    ensures { OnOk result (receipts.new.items ≡ receipts.old.items ++ receipts_from fetch 0 origins.items) }
+    ensures { OnOk result (receipts.new.items ≡ receipts.old.items
+        ++ receipts_from fetch 0 origins.items) }
 {
     let mut index = 0;
     'receiving: for origin in origins {
@@ -104,7 +110,9 @@ fn add_errors(
     path: Option<&Place>,
     causes: Vec<Cause>,
 ) -> Result<(), Memory>
-    ensures { OnOk result (errors.new.items ≡ errors.old.items ++ errors_from fetch sub (option_copied path.entry) causes.items) }
+    ensures { OnOk result
+        (errors.new.items ≡ errors.old.items
+        ++ errors_from fetch sub (option_copied path.entry) causes.items) }
 {
     'telling: for cause in causes {
         let path = copy_path(alloc, path)?;

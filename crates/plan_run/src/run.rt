@@ -21,10 +21,14 @@ pub fn run_plan<P: Plan, C: Cache, L: Line, T: Clock>(
     clock: &mut T,
     id: Option<&Text>,
 ) -> Result<Outcome, Memory>
-    ensures ok { IfOk result (λ o. DoesRequest (P.next plan.old) (P.given plan.old) (P.given plan.new) (option_copied id.entry) number (C.seen cache.old) (C.seen cache.new) (L.line line.old) (L.line line.new) (T.log clock.old) (T.log clock.new) o) }
+    ensures ok { IfOk result (λ o. DoesRequest (P.next plan.old) (P.given plan.old)
+        (P.given plan.new) (option_copied id.entry) number (C.seen cache.old) (C.seen cache.new)
+        (L.line line.old) (L.line line.new) (T.log clock.old) (T.log clock.new) o) }
     ensures same_next { OnOk result (P.next plan.new ≡ P.next plan.old) }
     ensures same_value { OnOk result (P.value_over plan.new ≡ P.value_over plan.old) }
-    ensures err { OnErr result (DropsRequest (P.next plan.old) (P.given plan.old) (option_copied id.entry) number (C.seen cache.old) (C.seen cache.new) (L.line line.old) (L.line line.new) (T.log clock.old) (T.log clock.new)) }
+    ensures err { OnErr result (DropsRequest (P.next plan.old) (P.given plan.old)
+        (option_copied id.entry) number (C.seen cache.old) (C.seen cache.new) (L.line line.old)
+        (L.line line.new) (T.log clock.old) (T.log clock.new)) }
 {
     let _epoch = cache.begin();
     let mut outcome = Outcome {

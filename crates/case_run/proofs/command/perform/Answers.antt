@@ -5,7 +5,7 @@ use Rattle.case_run.proofs.Going.{front_of}
 use Rattle.case_run.proofs.command.perform.Goals as goal
 
 pub returns-in_default-clause-ends : goal.returns-in_default-clause-ends
-returns-in_default-clause-ends g c = ([], front_of c.args.case.site (opening c.args.case.site.config.limits) c.args.case.requests, Appends-nil _)
+returns-in_default-clause-ends g c = ([], front_of c.args.case.site (opening c.args.case.site.config.limits c.args.case.replies) c.args.case.requests, Appends-nil _)
 
 pub returns-then-is_err-clause-ends : goal.returns-then-is_err-clause-ends
-returns-then-is_err-clause-ends g c = ([], front_of c.args.case.site (opening c.args.case.site.config.limits) c.args.case.requests, Appends-nil _)
+returns-then-is_err-clause-ends g c = ([], front_of c.args.case.site (opening c.args.case.site.config.limits c.args.case.replies) c.args.case.requests, Appends-nil _)

@@ -4,7 +4,7 @@ use Rattle.cache_terms.specs.declared.events.Mark.{Mark}
 use Rattle.cache_book.specs.Permits.{Granted}
 use Rattle.line_base.specs.Lines.{Named, names_of, name_of}
 use Rattle.line_base.specs.Told.{names_told}
-use Rattle.line_base.proofs.Telling.{naming}
+use Rattle.line_base.proofs.Scripts.{naming}
 use Rattle.line_base.proofs.script.copy_names.Goals as goal
 
 pub naming-preserved : goal.naming-preserved

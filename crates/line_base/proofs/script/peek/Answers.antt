@@ -2,7 +2,7 @@ use Rattle.std.proofs.Common.{◌≡◌, ◌≢◌, ◌<◌, ◌≤◌, length, 
 use Rattle.std.specs.Option.{option_copied}
 use Rattle.cache_terms.specs.declared.events.Reply.{Reply}
 use Rattle.line_base.specs.declared.script.Scripted.{Scripted}
-use Rattle.line_base.proofs.Telling.{none_step, none_at_all, first_answer, no_answer, same_element}
+use Rattle.line_base.proofs.Scripts.{none_step, none_at_all, first_answer, no_answer, same_element}
 use Rattle.line_base.proofs.script.peek.Goals as goal
 
 pub returns-then-replies-i : goal.returns-then-replies-i

@@ -1,5 +1,5 @@
 use Rattle.std.proofs.Common.{take}
-use Rattle.line_base.proofs.Telling.{NoneOf}
+use Rattle.line_base.proofs.Scripts.{NoneOf}
 use Rattle.line_base.proofs.script.peek.Given as goal
 
 -- no entry so far is of the subgraph

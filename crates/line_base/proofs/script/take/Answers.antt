@@ -1,6 +1,6 @@
 use Rattle.std.proofs.Common.{◌≡◌, ◌≢◌, ◌+◌, ◌<◌, ◌≤◌, ◌++◌, List, length, take, drop, get_or, sym, ap, subst, ◌∙◌, arith}
 use Rattle.line_base.specs.declared.script.Scripted.{Scripted}
-use Rattle.line_base.proofs.Telling.{none_step, none_at_all, first_answer, first_left, no_answer, all_left, same_element}
+use Rattle.line_base.proofs.Scripts.{none_step, none_at_all, first_answer, first_left, no_answer, all_left, same_element}
 use Rattle.line_base.proofs.script.take.Goals as goal
 
 pub returns-then-index-sub-clause-answer : goal.returns-then-index-sub-clause-answer

@@ -19,7 +19,8 @@ use Rattle.flow_base.specs.Logs.{Grows}
 use Rattle.line_base.proofs.Gaining.{grows_none}
 use Rattle.line_base.specs.Lines.{Named, Entry, Fetches, IsCounted, names_of, name_of, failures, failed_by}
 use Rattle.line_base.specs.declared.script.Scripted.{Scripted}
-use Rattle.line_base.specs.Told.{names_told, entries_told, entry_of, answer_told, script_line, Script, answer_for, left_for, Serves}
+use Rattle.line_base.specs.Foretold.{answer_told, answer_for, left_for}
+use Rattle.line_base.specs.Told.{names_told, entries_told, entry_of, script_line, Script, Serves}
 
 pub names_push : (ns : List (ℕ × Mark × Key)) (n : ℕ × Mark × Key) → names_told (ns ++ n ∷ []) ≡ names_told ns ++ record { epoch = n.0; mark = n.1; key = n.2 } ∷ []
 names_push [] n = refl
@@ -43,19 +44,23 @@ failures_push : (sub : ℕ) (es : List Entry) (e : Entry) → failures sub (es +
 failures_push sub [] e = omega arith
 failures_push sub (x ∷ es) e = omega (arith, failures_push sub es e)
 
-told_more : (es : List Entry) (e : Entry) → Grows (script_line es).log (script_line (es ++ e ∷ [])).log (e ∷ [])
-told_more es e = by_tests (nat_lt (length es) (2 ^ 64 - 1)) (nat_lt (length (es ++ e ∷ [])) (2 ^ 64 - 1)) refl refl
+-- the line with one more entry told, and these entries unused
+abbrev pub with_entry : Script → List Scripted → Entry → Script
+with_entry s left e = record { replies = left; log = s.log ++ e ∷ [] }
+
+told_more : (s : Script) (left : List Scripted) (e : Entry) → Grows (script_line s).log (script_line (with_entry s left e)).log (e ∷ [])
+told_more s left e = by_tests (nat_lt (length s.log) (2 ^ 64 - 1)) (nat_lt (length (s.log ++ e ∷ [])) (2 ^ 64 - 1)) refl refl
   where
-    by_tests : (a b : Bool) → nat_lt (length es) (2 ^ 64 - 1) ≡ a → nat_lt (length (es ++ e ∷ [])) (2 ^ 64 - 1) ≡ b → Grows (if a then Some es else None) (if b then Some (es ++ e ∷ []) else None) (e ∷ [])
+    by_tests : (a b : Bool) → nat_lt (length s.log) (2 ^ 64 - 1) ≡ a → nat_lt (length (s.log ++ e ∷ [])) (2 ^ 64 - 1) ≡ b → Grows (if a then Some s.log else None) (if b then Some (s.log ++ e ∷ []) else None) (e ∷ [])
     by_tests true true x y = refl
     by_tests true false x y = tt
     by_tests false false x y = tt
-    by_tests false true x y = absurd (grind (arith, nat_tests, length_push es e))
+    by_tests false true x y = absurd (grind (arith, nat_tests, length_push s.log e))
 
-counted : (es : List Entry) → IsCounted (script_line es)
-counted es = by_test (nat_lt (length es) (2 ^ 64 - 1)) refl
+counted : (s : Script) → IsCounted (script_line s)
+counted s = by_test (nat_lt (length s.log) (2 ^ 64 - 1)) refl
   where
-    by_test : (a : Bool) → nat_lt (length es) (2 ^ 64 - 1) ≡ a → IfSome (if a then Some es else None) (λ entries. min (length es) (2 ^ 64 - 1) ≡ length entries)
+    by_test : (a : Bool) → nat_lt (length s.log) (2 ^ 64 - 1) ≡ a → IfSome (if a then Some s.log else None) (λ entries. min (length s.log) (2 ^ 64 - 1) ≡ length entries)
     by_test true x = grind (arith, nat_tests)
     by_test false x = tt
 
@@ -69,23 +74,53 @@ one_failed : (sub : ℕ) (e : Entry) → e.call.sub ≡ sub → failed_by e.answ
 one_failed sub e same failed = ap (λ (b : Bool). (if b then failed_by e.answer else 0) + 0) (eq-eqb e.call.sub sub same) ∙ omega (arith, failed)
 
 -- a fetch that answers as it tells
-pub tells_reply : (es : List Entry) (permits : List Granted) (call : calls.Call) (reply : Reply) → Fetches (script_line es) permits call (Ok reply) (script_line (es ++ record { permits = names_of permits; call = call; answer = Ok reply } ∷ []))
-tells_reply es permits call reply =
+tells_reply : (s : Script) (permits : List Granted) (call : calls.Call) (reply : Reply) → Some reply ≡ answer_for call.sub s.replies
+    → Fetches (script_line s) permits call (Ok reply) (script_line (with_entry s (left_for call.sub s.replies) (record { permits = names_of permits; call = call; answer = Ok reply })))
+tells_reply s permits call reply is =
     let e : Entry = record { permits = names_of permits; call = call; answer = Ok reply } in
-    record { before = counted es; told = told_more es e; counted = counted (es ++ e ∷ []); calls = calls_more es e; later = later es e; cause = tt }
+    let left = left_for call.sub s.replies in record {
+      before = counted s;
+      told = told_more s left e;
+      counted = counted (with_entry s left e);
+      calls = calls_more s.log e;
+      later = later s.log e;
+      cause = tt;
+      foretold = record { answer_is = ap answer_told is; left = refl };
+    }
 
-pub tells_failure : (es : List Entry) (permits : List Granted) (call : calls.Call) → Fetches (script_line es) permits call (Err fault.Failed) (script_line (es ++ record { permits = names_of permits; call = call; answer = Err fault.Failed } ∷ []))
-tells_failure es permits call =
+tells_failure : (s : Script) (permits : List Granted) (call : calls.Call) → None ≡ answer_for call.sub s.replies
+    → Fetches (script_line s) permits call (Err fault.Failed) (script_line (with_entry s (left_for call.sub s.replies) (record { permits = names_of permits; call = call; answer = Err fault.Failed })))
+tells_failure s permits call is =
     let e : Entry = record { permits = names_of permits; call = call; answer = Err fault.Failed } in
-    let one : failures call.sub (e ∷ []) ≡ 1 = one_failed call.sub e refl refl in
-    record { before = counted es; told = told_more es e; counted = counted (es ++ e ∷ []); calls = calls_more es e; later = later es e; cause = omega (arith, failures_push call.sub es e, one) }
+    let left = left_for call.sub s.replies in
+    let one : failures call.sub (e ∷ []) ≡ 1 = one_failed call.sub e refl refl in record {
+      before = counted s;
+      told = told_more s left e;
+      counted = counted (with_entry s left e);
+      calls = calls_more s.log e;
+      later = later s.log e;
+      cause = omega (arith, failures_push call.sub s.log e, one);
+      foretold = record { answer_is = ap answer_told is; left = refl };
+    }
 
-pub tells_nothing : (es : List Entry) (permits : List Granted) (call : calls.Call) → Fetches (script_line es) permits call (Err fault.Memory) (script_line es)
-tells_nothing es permits call = record { before = counted es; told = grows_none (script_line es).log; counted = counted es; calls = refl; later = λ sub. omega arith; cause = (refl, refl) }
+pub tells_nothing : (s : Script) (permits : List Granted) (call : calls.Call) → Fetches (script_line s) permits call (Err fault.Memory) (script_line s)
+tells_nothing s permits call = record {
+  before = counted s;
+  told = grows_none (script_line s).log;
+  counted = counted s;
+  calls = refl;
+  later = λ sub. omega arith;
+  cause = (refl, refl);
+  foretold = refl;
+}
 
-pub tells_answer : (es : List Entry) (permits : List Granted) (call : calls.Call) (o : Option Reply) (t : Told) → entry_of t ≡ record { permits = names_of permits; call = call; answer = answer_told o } → Fetches (script_line es) permits call (answer_told o) (script_line (es ++ entry_of t ∷ []))
-tells_answer es permits call None t is = subst (λ (e : Entry). Fetches (script_line es) permits call (Err fault.Failed) (script_line (es ++ e ∷ []))) (sym is) (tells_failure es permits call)
-tells_answer es permits call (Some reply) t is = subst (λ (e : Entry). Fetches (script_line es) permits call (Ok reply) (script_line (es ++ e ∷ []))) (sym is) (tells_reply es permits call reply)
+pub tells_answer : (s : Script) (permits : List Granted) (call : calls.Call) (o : Option Reply) (t : Told) → o ≡ answer_for call.sub s.replies
+    → entry_of t ≡ record { permits = names_of permits; call = call; answer = answer_told o }
+    → Fetches (script_line s) permits call (answer_told o) (script_line (with_entry s (left_for call.sub s.replies) (entry_of t)))
+tells_answer s permits call None t first is =
+    subst (λ (e : Entry). Fetches (script_line s) permits call (Err fault.Failed) (script_line (with_entry s (left_for call.sub s.replies) e))) (sym is) (tells_failure s permits call first)
+tells_answer s permits call (Some reply) t first is =
+    subst (λ (e : Entry). Fetches (script_line s) permits call (Ok reply) (script_line (with_entry s (left_for call.sub s.replies) e))) (sym is) (tells_reply s permits call reply first)
 
 pub naming : (ns : List (ℕ × Mark × Key)) (n : ℕ × Mark × Key) (p : Granted) (rest ps all : List Granted) → ps ≡ p ∷ rest → record { epoch = n.0; mark = n.1; key = n.2 } ≡ name_of p → names_told ns ++ names_of ps ≡ names_of all → names_told (ns ++ n ∷ []) ++ names_of rest ≡ names_of all
 naming ns n p rest ps all split is h =

@@ -1,7 +1,7 @@
 -- Clocks that stand still.
 use Rattle.std.specs.Prelude.{◌≡◌, ℕ, ◌-◌, ◌^◌, ◌==◌, if◌then◌else◌, List, [], ◌∷◌, ◌++◌, Option, Some, None}
 use Rattle.std.proofs.Common.{zero, suc}
-use Rattle.case_run.specs.declared.still.Still.{Still}
+use Rattle.still_clock.specs.declared.still.Still.{Still}
 
 -- a moment, so many times
 abbrev pub times : ℕ → ℕ → List ℕ

@@ -9,7 +9,7 @@ pub struct Still {
 }
 
 impl Clock for Still {
-    ghost use Rattle.case_run.specs.Clocks.{told};
+    ghost use Rattle.still_clock.specs.Clocks.{told};
 
     ghost log = { λ c. told c };
 

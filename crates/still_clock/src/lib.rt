@@ -1,0 +1,6 @@
+//! Clocks that stand still.
+#![tactic(auto)]
+
+mod still;
+
+pub use still::Still;
