@@ -23,10 +23,16 @@ pub record IsRehearseLine (words : List (List ℕ)) (limits : Limits) : Type 0 w
   pub events : IsWithin (word words 1) 8 65536 limits.events
   pub bytes : IsWithin (word words 2) 16 268435456 limits.bytes
 
+-- workload STEPS
+pub record IsWorkloadLine (words : List (List ℕ)) (steps : ℕ) : Type 0 where
+  pub form : HasForm words (codes "workload") 2
+  pub steps_is : IsWithin (word words 1) 1 100000 steps
+
 -- the words of the command
 abbrev pub IsCommandLine : List (List ℕ) → Command → Type 0
 IsCommandLine words (command.Rehearse limits) = IsRehearseLine words limits
 IsCommandLine words command.Ask = HasForm words (codes "ask") 1
+IsCommandLine words (command.Workload steps) = IsWorkloadLine words steps
 IsCommandLine words command.Help = HasForm words (codes "--help") 1
 IsCommandLine words command.Version = HasForm words (codes "--version") 1
 

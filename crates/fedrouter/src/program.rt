@@ -7,6 +7,7 @@ use case_run::ask;
 use flow_base::{Sink, Source, Text, put_all};
 use rehearsal::rehearse;
 use std::alloc::Global;
+use workload::run_workload;
 
 /// The status where a command was done.
 const DONE: u8 = 0;
@@ -23,6 +24,7 @@ pub const NO_MEMORY: u8 = 9;
 /// What `--help` writes.
 const USAGE: &str = "usage: fedrouter rehearse EVENTS BYTES\n\
     or: fedrouter ask\n\
+    or: fedrouter workload STEPS\n\
     or: fedrouter --help\n\
     or: fedrouter --version\n\
     \n\
@@ -30,7 +32,14 @@ const USAGE: &str = "usage: fedrouter rehearse EVENTS BYTES\n\
     EVENTS events (8 to 65536) and BYTES bytes of pieces (16 to 268435456), and writes one line\n\
     for each step.\n\
     ask reads a case from standard input, a schema with plans, requests and replies, runs the\n\
-    requests one after the other over one cache, and writes what is sent and what is answered.\n";
+    requests one after the other over one cache, and writes what is sent and what is answered.\n\
+    workload makes STEPS (1 to 100000) requests and invalidations that a generator of numbers draws,\n\
+    over one cache, and writes one line of what was made, found and missed.\n\
+    \n\
+    for example:\n\
+    fedrouter rehearse 64 4096 < examples/late_tag.txt\n\
+    fedrouter ask < examples/shop.json\n\
+    fedrouter workload 100\n";
 
 /// What `--version` writes.
 const VERSION: &str = "fedrouter 0.1.0\n";
@@ -56,6 +65,7 @@ pub fn run_program<S: Source, K: Sink>(
     match read_words(words) {
         Some(Command::Rehearse(limits)) => rehearse(alloc, limits, source, sink),
         Some(Command::Ask) => ask(alloc, source, sink),
+        Some(Command::Workload(steps)) => run_workload(alloc, steps, sink),
         Some(Command::Help) => print(sink, USAGE, DONE),
         Some(Command::Version) => print(sink, VERSION, DONE),
         None => print(sink, "words refused\n", WORDS_REFUSED),

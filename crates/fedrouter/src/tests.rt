@@ -25,6 +25,7 @@ fn words_pick_the_command(rt: HostRuntime) -> Result<(), Fail> {
     let alloc = rt.alloc();
     let script = "begin 1\nlook 1 - 0 a T r s\nsettle 0.0 60 0 public - v\nlook 1 - 0 a T r s\n";
     let replies = "epoch 0\n0 miss 0.0\n2 stored\n3 hit 2 v\n";
+    let small = "steps 4 requests 4 voids 0 hits 3 misses 21 epoch 0 events 66\n";
     let table = [
         ("rehearse 64 4096", script, replies, 0),
         ("rehearse 64 4096", "", "", 0),
@@ -36,6 +37,10 @@ fn words_pick_the_command(rt: HostRuntime) -> Result<(), Fail> {
         ("", script, "words refused\n", 2),
         ("ask", "{}", "case refused member schema\n", 5),
         ("ask now", "{}", "words refused\n", 2),
+        ("workload 4", "", small, 0),
+        ("workload 0", "", "words refused\n", 2),
+        ("workload 100001", "", "words refused\n", 2),
+        ("workload", "", "words refused\n", 2),
         ("--version", script, "fedrouter 0.1.0\n", 0),
     ];
     for (line, input, output, status) in table {

@@ -11,6 +11,7 @@ use script_lines::number;
 pub enum Command {
     Rehearse(Limits),
     Ask,
+    Workload(u64),
     Help,
     Version,
 }
@@ -24,6 +25,9 @@ pub fn read_words(words: &[Text]) -> Option<Command>
     }
     if has_form(words, "ask", 1) {
         return Some(Command::Ask);
+    }
+    if has_form(words, "workload", 2) {
+        return read_workload(words);
     }
     if has_form(words, "--help", 1) {
         return Some(Command::Help);
@@ -46,13 +50,17 @@ fn read_rehearse(words: &[Text]) -> Option<Command>
     requires { HasForm words.now (codes "rehearse") 3 }
     ensures { IsAsked words.now result }
 {
-    let Some(events) = limit(words[1].as_str(), 8, 65536) else {
-        return None;
-    };
-    let Some(bytes) = limit(words[2].as_str(), 16, 268435456) else {
-        return None;
-    };
+    let events = limit(words[1].as_str(), 8, 65536)?;
+    let bytes = limit(words[2].as_str(), 16, 268435456)?;
     Some(Command::Rehearse(Limits { events, bytes }))
+}
+
+fn read_workload(words: &[Text]) -> Option<Command>
+    requires { HasForm words.now (codes "workload") 2 }
+    ensures { IsAsked words.now result }
+{
+    let steps = limit(words[1].as_str(), 1, 100000)?;
+    Some(Command::Workload(steps))
 }
 
 // The number that the word is, where it lies from `least` to `most`.

@@ -1,0 +1,9 @@
+pub mod Looking
+pub mod Ticketing
+pub mod Requested
+pub mod Fetched
+pub mod Printed
+pub mod Putting
+pub mod Finishing
+pub mod Stepping
+pub mod Replied
