@@ -1,14 +1,16 @@
 //! Times the product's hot paths on what it is given: `bench json TURNS` reads one JSON text from standard input, and
 //! prints for reading and for printing it a line of bytes, turns and nanoseconds of all turns together; `bench documents
 //! TURNS` does so for reading a GraphQL document and writing its canonical text, `bench http TURNS` for reading a stream of
-//! requests, and `bench shape TURNS` for shaping data by a schema and a query. `bench plan TURNS` makes what it works on itself:
-//! entities that are gathered and placed. `bench turns THREADS TURNS` times threads that share one book.
+//! requests, `bench request TURNS` for the first request of a case, and `bench shape TURNS` for shaping data by a schema and a
+//! query. `bench plan TURNS` makes what it works on itself: entities that are gathered and placed. `bench turns THREADS TURNS`
+//! times threads that share one book.
 #![tactic(auto)]
 
 mod documents;
 mod http;
 mod json;
 mod plan;
+mod request;
 mod shape;
 mod turns;
 
@@ -23,10 +25,12 @@ const USAGE: &str = "usage: bench json TURNS < TEXT
        bench documents TURNS < DOCUMENT
        bench http TURNS < REQUESTS
        bench plan TURNS
-       bench shape TURNS < CASE
+       bench request TURNS < CASE
+       bench shape TURNS < DATA
        bench turns THREADS TURNS
 Times the reading and the printing of a JSON text or of a GraphQL document, the reading of a stream of HTTP requests, the
-gathering and placing of entities, or the shaping of data, each TURNS times; or TURNS turns of each of some threads on one book.";
+gathering and placing of entities, the first request of a case (with nothing kept, and with everything kept), or the shaping
+of data, each TURNS times; or TURNS turns of each of some threads on one book.";
 
 fn main(rt: HostRuntime) -> Result<()> {
     run(&rt)
@@ -60,6 +64,7 @@ fn time<R: Runtime<A = Global>>(rt: &R, what: &str, turns: u32) -> Result<()> {
         "documents" => documents::time(rt, turns),
         "http" => http::time(rt, turns),
         "plan" => plan::time(rt, turns),
+        "request" => request::time(rt, turns),
         "shape" => shape::time(rt, turns),
         _ => bail!("{USAGE}"),
     }
