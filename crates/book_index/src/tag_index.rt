@@ -108,7 +108,8 @@ fn add_names(
     known: &[Text],
     position: u64,
 ) -> Result<(), Memory>
-    ensures typed { OnOk result (SetsHolderIn types.old types.new sub.now type_name.now position true) }
+    ensures typed { OnOk result (SetsHolderIn types.old types.new sub.now type_name.now position
+        true) }
     ensures tagged { OnOk result (SetsHolders tags.old tags.new sub.now known.now position true) }
     ensures same_types { OnErr result (HasSameHoldersIn types.old types.new) }
     ensures same_tags { OnErr result (HasSameHoldersIn tags.old tags.new) }

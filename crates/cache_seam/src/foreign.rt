@@ -134,7 +134,8 @@ pub(crate) fn meddle_next(
     past: &mut Vec<Event>,
 )
     requires { All (All IsFitting) (steps_of later.old.items) }
-    ensures meddles { Meddles (first_of (steps_of later.old.items)) pass.old book.old book.new pass.new }
+    ensures meddles { Meddles (first_of (steps_of later.old.items)) pass.old book.old book.new
+        pass.new }
     ensures later { steps_of later.new.items ≡ drop 1 (steps_of later.old.items) }
     ensures past { IsKept book.old book.new pinned past.old.items past.new.items }
 {

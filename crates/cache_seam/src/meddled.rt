@@ -25,9 +25,15 @@ impl Model for Meddled {
 
     ghost Value = { Meddling };
 
-    ghost view = { λ m. record { seen = seen_meddled m.book m.pinned m.begun m.past.items; pass = m.second; later = steps_of m.later.items } };
+    ghost view = { λ m. record {
+      seen = seen_meddled m.book m.pinned m.begun m.past.items;
+      pass =
+          m.second;
+      later = steps_of m.later.items;
+    } };
 
-    ghost invariant = { λ m. IsReady m.book m.pass m.pinned m.begun m.past.items m.second (steps_of m.later.items) };
+    ghost invariant = { λ m. IsReady m.book m.pass m.pinned m.begun m.past.items m.second
+        (steps_of m.later.items) };
 }
 
 impl Meddled {
@@ -45,7 +51,13 @@ impl Meddled {
     ) -> Result<Meddled, Memory>
         requires limits { IsWithinRanges limits }
         requires offers { All (All IsFitting) (steps_of foreign.items) }
-        ensures { IfOk result (λ m. m ≡ record { seen = seen_meddled (opened limits 0) 0 true []; pass = record { who = 1; epoch = 0 }; later = steps_of foreign.items }) }
+        ensures { IfOk result (λ m. m
+            ≡ record {
+              seen = seen_meddled (opened limits 0) 0 true
+                  [];
+              pass = record { who = 1; epoch = 0 };
+              later = steps_of foreign.items;
+            }) }
     {
         let mut book = Book::open(alloc, limits, 0)?;
         let pass = book.begin(0);
@@ -76,8 +88,10 @@ impl Cache for Meddled {
     ghost seen = { λ m. m.seen };
 
     fn begin(&mut self) -> u64
-        ensures calls { Calls self.old.seen (call.Begin self.old.seen.number) (call.Begun (record { who = self.old.seen.number; epoch = result })) self.new.seen }
-        ensures meddled { MeddledCall self.old (call.Begin self.old.seen.number) (call.Begun (record { who = self.old.seen.number; epoch = result })) self.new }
+        ensures calls { Calls self.old.seen (call.Begin self.old.seen.number)
+            (call.Begun (record { who = self.old.seen.number; epoch = result })) self.new.seen }
+        ensures meddled { MeddledCall self.old (call.Begin self.old.seen.number)
+            (call.Begun (record { who = self.old.seen.number; epoch = result })) self.new }
     {
         meddle_next(
             self.alloc,
@@ -95,10 +109,20 @@ impl Cache for Meddled {
 
     fn look(&mut self, id: Option<&Text>, asks: Vec<Key>, now: u64) -> Result<Vec<Found>, Memory>
         requires { self.old.seen.begun ≡ true }
-        ensures ok { IfOk result (λ answers. Calls self.old.seen (call.Look (pass_of self.old.seen) (option_copied id.entry) asks.items now) (call.Looked answers.items) self.new.seen) }
-        ensures err { OnErr result (Calls self.old.seen (call.Look (pass_of self.old.seen) (option_copied id.entry) asks.items now) call.OutOfMemory self.new.seen) }
-        ensures meddled { IfOk result (λ answers. MeddledCall self.old (call.Look (pass_of self.old.seen) (option_copied id.entry) asks.items now) (call.Looked answers.items) self.new) }
-        ensures meddled_err { OnErr result (MeddledCall self.old (call.Look (pass_of self.old.seen) (option_copied id.entry) asks.items now) call.OutOfMemory self.new) }
+        ensures ok { IfOk result (λ answers. Calls self.old.seen
+            (call.Look (pass_of self.old.seen) (option_copied id.entry) asks.items now)
+            (call.Looked answers.items) self.new.seen) }
+        ensures err { OnErr result
+            (Calls self.old.seen (call.Look (pass_of self.old.seen)
+            (option_copied id.entry) asks.items now) call.OutOfMemory self.new.seen) }
+        ensures meddled { IfOk result
+            (λ answers. MeddledCall self.old
+            (call.Look (pass_of self.old.seen) (option_copied id.entry) asks.items now)
+            (call.Looked answers.items) self.new) }
+        ensures meddled_err { OnErr result
+            (MeddledCall self.old
+            (call.Look (pass_of self.old.seen) (option_copied id.entry) asks.items now)
+            call.OutOfMemory self.new) }
     {
         meddle_next(
             self.alloc,
@@ -117,8 +141,10 @@ impl Cache for Meddled {
         requires may { MaySettle self.old.seen.left fill.permit }
         requires range { IsInRange fill.report }
         requires object { OffersObject fill.report }
-        ensures calls { Calls self.old.seen (call.Settle fill.permit fill.report) (call.Closed result) self.new.seen }
-        ensures meddled { MeddledCall self.old (call.Settle fill.permit fill.report) (call.Closed result) self.new }
+        ensures calls { Calls self.old.seen (call.Settle fill.permit fill.report)
+            (call.Closed result) self.new.seen }
+        ensures meddled { MeddledCall self.old (call.Settle fill.permit fill.report)
+            (call.Closed result) self.new }
     {
         meddle_next(
             self.alloc,
@@ -132,8 +158,10 @@ impl Cache for Meddled {
     }
 
     fn invalidate(&mut self, notice: Notice) -> Voided
-        ensures calls { Calls self.old.seen (call.Invalidate self.old.seen.number notice) (call.Voided result) self.new.seen }
-        ensures meddled { MeddledCall self.old (call.Invalidate self.old.seen.number notice) (call.Voided result) self.new }
+        ensures calls { Calls self.old.seen (call.Invalidate self.old.seen.number notice)
+            (call.Voided result) self.new.seen }
+        ensures meddled { MeddledCall self.old (call.Invalidate self.old.seen.number notice)
+            (call.Voided result) self.new }
     {
         meddle_next(
             self.alloc,

@@ -86,7 +86,8 @@ fn end_within<'a>(
     rest: &'a str,
 ) -> Result<Lexed<'a>, Memory>
     requires { (class : Class_) → spec.finish state ≡ Some class → grammar.IsLexeme class rest.now }
-    ensures { IfOk result (λ l. spec.EndsWithin tokens.entry.items places.items state rest.now l.tokens.items l.places.items l.last) }
+    ensures { IfOk result (λ l. spec.EndsWithin tokens.entry.items places.items state rest.now
+        l.tokens.items l.places.items l.last) }
 {
     let mut tokens = tokens;
     let kinds = growths(alloc, state, rest)?;

@@ -96,7 +96,8 @@ fn begins(front: &[u8], word: &[u8]) -> bool
 
 /// Adds the kind of the word, where it begins with the text.
 fn add_word(kinds: &mut Vec<Kind>, text: &str, word: &str, kind: Kind) -> Result<(), Memory>
-    ensures { IfOk result (λ _. kinds.new.items ≡ kinds.old.items ++ spec.word_kinds text.now word.now kind) }
+    ensures { IfOk result (λ _. kinds.new.items ≡ kinds.old.items
+        ++ spec.word_kinds text.now word.now kind) }
 {
     if begins(text.as_bytes(), word.as_bytes()) {
         kinds.push(kind)?;
@@ -105,7 +106,8 @@ fn add_word(kinds: &mut Vec<Kind>, text: &str, word: &str, kind: Kind) -> Result
 }
 
 fn add_words(kinds: &mut Vec<Kind>, text: &str) -> Result<(), Memory>
-    ensures { IfOk result (λ _. kinds.new.items ≡ kinds.old.items ++ ends.words_from text.now grammar.words) }
+    ensures { IfOk result (λ _. kinds.new.items ≡ kinds.old.items
+        ++ ends.words_from text.now grammar.words) }
 {
     add_word(kinds, text, "query", Kind::Query)?;
     add_word(kinds, text, "mutation", Kind::Mutation)?;

@@ -350,7 +350,9 @@ fn is_blank(byte: u8) -> bool
 }
 
 fn has_byte_order_mark(bytes: &[u8]) -> bool
-    ensures { IsTrue result ↔ ((3 ≤ length bytes.now) × (slice_index bytes.now 0 ≡ 239) × (slice_index bytes.now 1 ≡ 187) × (slice_index bytes.now 2 ≡ 191)) }
+    ensures { IsTrue result
+        ↔ ((3 ≤ length bytes.now) × (slice_index bytes.now 0 ≡ 239)
+        × (slice_index bytes.now 1 ≡ 187) × (slice_index bytes.now 2 ≡ 191)) }
 {
     bytes.len() >= 3 && bytes[0] == 0xEF && bytes[1] == 0xBB && bytes[2] == 0xBF
 }
@@ -359,7 +361,8 @@ fn has_byte_order_mark(bytes: &[u8]) -> bool
 pub fn ignored_length(bytes: &[u8]) -> usize
     requires { 0 < length bytes.now }
     ensures bound { result ≤ length bytes.now }
-    ensures is_ignored { 0 < result → grammar.IsIgnored (take result bytes.now) (drop result bytes.now) }
+    ensures is_ignored { 0 < result
+        → grammar.IsIgnored (take result bytes.now) (drop result bytes.now) }
     ensures none { result ≡ 0 → NoneIgnored bytes.now }
 {
     if is_blank(bytes[0]) {

@@ -85,7 +85,8 @@ fn with_name(names: BTreeSet<Text>, name: &Text) -> Result<BTreeSet<Text>, Memor
 
 /// The names of the members.
 fn names_of(alloc: Global, members: &[(Text, Json)]) -> Result<BTreeSet<Text>, Memory>
-    ensures { IfOk result (λ set. (k : List ℕ) → contains (slice_cmp nat_cmp) set k ≡ grammar.has members.now k) }
+    ensures { IfOk result (λ set. (k : List ℕ)
+        → contains (slice_cmp nat_cmp) set k ≡ grammar.has members.now k) }
 {
     let mut names = BTreeSet::new(alloc);
     for i in 0..members.len() {
@@ -96,7 +97,8 @@ fn names_of(alloc: Global, members: &[(Text, Json)]) -> Result<BTreeSet<Text>, M
 
 /// The digests of the members' names; none where one of them finds no place.
 fn digests_of(alloc: Global, members: &[(Text, Json)]) -> Result<Option<Digests>, Memory>
-    ensures { IfOk result (λ found. IfSome found (λ t. (k : List ℕ) → grammar.has members.now k ≡ true → has_digest t (digest_of k) ≡ true)) }
+    ensures { IfOk result (λ found. IfSome found
+        (λ t. (k : List ℕ) → grammar.has members.now k ≡ true → has_digest t (digest_of k) ≡ true)) }
 {
     let mut digests = Digests::new(alloc, FIRST_MASK)?;
     for i in 0..members.len() {
@@ -127,7 +129,9 @@ impl Index {
     }
 
     fn of_names(alloc: Global, names: BTreeSet<Text>) -> Result<Index, Memory>
-        ensures { IfOk result (λ index. (named : List ℕ → Bool) → ((k : List ℕ) → contains (slice_cmp nat_cmp) names k ≡ named k) → Covers index named) }
+        ensures { IfOk result
+            (λ index. (named : List ℕ → Bool)
+            → ((k : List ℕ) → contains (slice_cmp nat_cmp) names k ≡ named k) → Covers index named) }
     {
         match Box::new(alloc, names) {
             Ok(names) => Ok(Index::ByName(names)),
@@ -137,7 +141,8 @@ impl Index {
 
     /// An index of the names of these members and of one more.
     fn by_name(alloc: Global, members: &[(Text, Json)], name: &Text) -> Result<Index, Memory>
-        ensures { IfOk result (λ index. Covers index (λ k. grammar.has members.now k || bytes_eq name.now k)) }
+        ensures { IfOk result (λ index. Covers index
+            (λ k. grammar.has members.now k || bytes_eq name.now k)) }
     {
         let names = names_of(alloc, members)?;
         let names = with_name(names, name)?;
@@ -151,7 +156,8 @@ impl Index {
         name: &Text,
     ) -> Result<Index, Memory>
         requires { Covers (ByDigest digests) (grammar.has members.now) }
-        ensures { IfOk result (λ index. Covers index (λ k. grammar.has members.now k || bytes_eq name.now k)) }
+        ensures { IfOk result (λ index. Covers index
+            (λ k. grammar.has members.now k || bytes_eq name.now k)) }
     {
         let mut digests = digests;
         if !digests.add(alloc, digest(name))? {
@@ -161,7 +167,8 @@ impl Index {
     }
 
     fn of_many(alloc: Global, members: &[(Text, Json)], name: &Text) -> Result<Index, Memory>
-        ensures { IfOk result (λ index. Covers index (λ k. grammar.has members.now k || bytes_eq name.now k)) }
+        ensures { IfOk result (λ index. Covers index
+            (λ k. grammar.has members.now k || bytes_eq name.now k)) }
     {
         match digests_of(alloc, members)? {
             Some(digests) => {
@@ -175,7 +182,8 @@ impl Index {
     /// With one more name than those of these members.
     fn with(self, alloc: Global, members: &[(Text, Json)], name: &Text) -> Result<Index, Memory>
         requires { Covers self (grammar.has members.now) }
-        ensures { IfOk result (λ index. Covers index (λ k. grammar.has members.now k || bytes_eq name.now k)) }
+        ensures { IfOk result (λ index. Covers index
+            (λ k. grammar.has members.now k || bytes_eq name.now k)) }
     {
         match self {
             Index::OneByOne => {

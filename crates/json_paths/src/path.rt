@@ -110,7 +110,8 @@ pub fn enter(spots: &mut Vec<Spot>, spot: Spot) -> Result<(), Memory>
 
 /// Goes back out: takes the last spot off, where there is one.
 pub fn leave(spots: &mut Vec<Spot>)
-    ensures back { (outer : List Way) → (last : Way) → spots.old.items ≡ outer ++ (last ∷ []) → spots.new.items ≡ outer }
+    ensures back { (outer : List Way) → (last : Way) → spots.old.items ≡ outer ++ (last ∷ [])
+        → spots.new.items ≡ outer }
     ensures outermost { spots.old.items ≡ [] → spots.new.items ≡ [] }
 {
     let _ = spots.pop();

@@ -16,7 +16,8 @@ use std::alloc::Global;
 pub fn places(alloc: Global, value: &Json, path: &Path) -> Result<Vec<Place>, Memory>
     ensures value { IfOk result (λ found. found.items ≡ places_of value.now path.now) }
     // Every place that is given is found by `at`, and none that is found is missing.
-    ensures exact { IfOk result (λ found. (place : Place) → Contains found.items place ↔ IsPlaceOf value.now path.now place) }
+    ensures exact { IfOk result (λ found. (place : Place) → Contains found.items place
+        ↔ IsPlaceOf value.now path.now place) }
 {
     let mut spots = Vec::new(alloc);
     let mut found = Vec::new(alloc);
@@ -33,7 +34,8 @@ fn walk(
     spots: &mut Vec<Spot>,
     found: &mut Vec<Place>,
 ) -> Result<(), Memory>
-    ensures places { OnOk result (found.new.items ≡ found.old.items ++ under spots.old.items (spots_in value.now steps.now)) }
+    ensures places { OnOk result
+        (found.new.items ≡ found.old.items ++ under spots.old.items (spots_in value.now steps.now)) }
     ensures back { OnOk result (spots.new.items ≡ spots.old.items) }
 {
     match steps {
@@ -56,7 +58,9 @@ fn walk_member(
     spots: &mut Vec<Spot>,
     found: &mut Vec<Place>,
 ) -> Result<(), Memory>
-    ensures places { OnOk result (found.new.items ≡ found.old.items ++ under spots.old.items (spots_in value.now (step.Name name.now ∷ steps.now))) }
+    ensures places { OnOk result
+        (found.new.items ≡ found.old.items
+        ++ under spots.old.items (spots_in value.now (step.Name name.now ∷ steps.now))) }
     ensures back { OnOk result (spots.new.items ≡ spots.old.items) }
 {
     if let Some(inner) = member(value, name.as_str()) {
@@ -75,7 +79,9 @@ fn walk_each(
     spots: &mut Vec<Spot>,
     found: &mut Vec<Place>,
 ) -> Result<(), Memory>
-    ensures places { OnOk result (found.new.items ≡ found.old.items ++ under spots.old.items (spots_in value.now (step.Each ∷ steps.now))) }
+    ensures places { OnOk result
+        (found.new.items ≡ found.old.items
+        ++ under spots.old.items (spots_in value.now (step.Each ∷ steps.now))) }
     ensures back { OnOk result (spots.new.items ≡ spots.old.items) }
 {
     let items = elements_of(value);

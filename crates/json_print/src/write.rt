@@ -14,7 +14,8 @@ use std::alloc::Global;
 pub fn print(alloc: Global, value: &Json) -> Result<Text, Memory>
     ensures text { IfOk result (λ t. t ≡ spec.print value.now) }
     // Where some text stands for the value, as for each value that was read, this text does.
-    ensures reads_back { IfOk result (λ t. (other : List ℕ) → IsText strict value.now other → IsText strict value.now t) }
+    ensures reads_back { IfOk result
+        (λ t. (other : List ℕ) → IsText strict value.now other → IsText strict value.now t) }
 {
     let mut out = String::new(alloc);
     put(&mut out, value)?;
@@ -39,7 +40,8 @@ fn put(out: &mut String, value: &Json) -> Result<(), Memory>
 
 #[cycle(put)]
 fn put_list(out: &mut String, items: &[Json]) -> Result<(), Memory>
-    ensures { OnOk result (string_bytes out.new ≡ string_bytes out.old ++ spec.bracketed 91 (map spec.print items.now) 93) }
+    ensures { OnOk result (string_bytes out.new ≡ string_bytes out.old
+        ++ spec.bracketed 91 (map spec.print items.now) 93) }
 {
     out.push_str("[")?;
     for i in 0..items.len() {
@@ -52,7 +54,8 @@ fn put_list(out: &mut String, items: &[Json]) -> Result<(), Memory>
 
 #[cycle(put)]
 fn put_object(out: &mut String, members: &[(Text, Json)]) -> Result<(), Memory>
-    ensures { OnOk result (string_bytes out.new ≡ string_bytes out.old ++ spec.bracketed 123 (map spec.member_text (map spec.print_member members.now)) 125) }
+    ensures { OnOk result (string_bytes out.new ≡ string_bytes out.old
+        ++ spec.bracketed 123 (map spec.member_text (map spec.print_member members.now)) 125) }
 {
     out.push_str("{")?;
     for i in 0..members.len() {

@@ -5,3 +5,4 @@ pub mod Numbers
 pub mod Scan
 pub mod Tokens
 pub mod View
+pub mod Unique

@@ -106,7 +106,8 @@ impl Reader {
 
     #[tactic(auto, unfolding(crate::specs::Machine::open_by))]
     fn open(&mut self, mode: Mode) -> Result<(), Refusal>
-        ensures { spec.Steps (spec.open_by 64 mode (frames_of self.old)) result (state_of self.new) }
+        ensures { spec.Steps (spec.open_by 64 mode (frames_of self.old)) result
+            (state_of self.new) }
     {
         if !self.may_open() {
             return Err(Refusal::Deep);
@@ -132,7 +133,8 @@ impl Reader {
     }
 
     fn begin_number(&mut self, byte: u8) -> Result<(), Refusal>
-        ensures { spec.Steps (spec.number_by (frames_of self.old) byte (numbers.number_start byte)) result (state_of self.new) }
+        ensures { spec.Steps (spec.number_by (frames_of self.old) byte (numbers.number_start byte))
+            result (state_of self.new) }
     {
         match number_start(byte) {
             None => Err(Refusal::Syntax),
@@ -147,7 +149,8 @@ impl Reader {
 
     #[tactic(auto, unfolding(crate::specs::Machine::value_step))]
     fn value(&mut self, byte: u8) -> Result<(), Refusal>
-        ensures { spec.Steps (spec.value_step 64 (frames_of self.old) byte) result (state_of self.new) }
+        ensures { spec.Steps (spec.value_step 64 (frames_of self.old) byte) result
+            (state_of self.new) }
     {
         if is_blank(byte) {
             self.mode = Mode::Value;
@@ -158,7 +161,8 @@ impl Reader {
 
     #[tactic(auto, unfolding(crate::specs::Machine::first_step))]
     fn first(&mut self, byte: u8) -> Result<(), Refusal>
-        ensures { spec.Steps (spec.first_step 64 (frames_of self.old) byte) result (state_of self.new) }
+        ensures { spec.Steps (spec.first_step 64 (frames_of self.old) byte) result
+            (state_of self.new) }
     {
         if is_blank(byte) {
             self.mode = Mode::First;
@@ -174,7 +178,8 @@ impl Reader {
 
     #[tactic(auto, unfolding(crate::specs::Machine::after_step))]
     fn after(&mut self, value: Json, byte: u8) -> Result<(), Refusal>
-        ensures { spec.Steps (spec.after_step (frames_of self.old) value byte) result (state_of self.new) }
+        ensures { spec.Steps (spec.after_step (frames_of self.old) value byte) result
+            (state_of self.new) }
     {
         if is_blank(byte) {
             self.mode = Mode::After(value);
@@ -198,7 +203,8 @@ impl Reader {
     }
 
     fn after_item(&mut self, items: Items<Json>, value: Json, byte: u8) -> Result<(), Refusal>
-        ensures { spec.Steps (spec.after_by (List items ∷ frames_of self.old) value byte) result (state_of self.new) }
+        ensures { spec.Steps (spec.after_by (List items ∷ frames_of self.old) value byte) result
+            (state_of self.new) }
     {
         let mut items = items;
         if byte == b',' {
@@ -222,7 +228,8 @@ impl Reader {
         value: Json,
         byte: u8,
     ) -> Result<(), Refusal>
-        ensures { spec.Steps (spec.after_by (Member members name ∷ frames_of self.old) value byte) result (state_of self.new) }
+        ensures { spec.Steps (spec.after_by (Member members name ∷ frames_of self.old) value byte)
+            result (state_of self.new) }
     {
         if byte == b',' {
             let members = members.with(name, value)?;
@@ -240,7 +247,8 @@ impl Reader {
 
     #[tactic(auto, unfolding(crate::specs::Machine::word_step))]
     fn word(&mut self, word: Word, read: usize, byte: u8) -> Result<(), Refusal>
-        ensures { spec.Steps (spec.word_step (frames_of self.old) word read byte) result (state_of self.new) }
+        ensures { spec.Steps (spec.word_step (frames_of self.old) word read byte) result
+            (state_of self.new) }
     {
         let letters = letters(word);
         if read >= letters.len() || byte != letters[read] {
@@ -257,7 +265,8 @@ impl Reader {
     #[tactic(auto, unfolding(crate::specs::Machine::number_step))]
     fn number(&mut self, part: Digit, text: Buffer, byte: u8) -> Result<(), Refusal>
         requires { HoldsText (modes.Number part text) }
-        ensures { spec.Steps (spec.number_step (frames_of self.old) part text byte) result (state_of self.new) }
+        ensures { spec.Steps (spec.number_step (frames_of self.old) part text byte) result
+            (state_of self.new) }
     {
         let mut text = text;
         match number_next(part, byte) {
@@ -278,7 +287,8 @@ impl Reader {
 
     fn string(&mut self, at: u64, part: Part, text: Buffer, byte: u8) -> Result<(), Refusal>
         requires { HoldsText (modes.Str part text) }
-        ensures { spec.Steps (spec.str_by (frames_of self.old) (strings.scan false at part text byte)) result (state_of self.new) }
+        ensures { spec.Steps (spec.str_by (frames_of self.old)
+            (strings.scan false at part text byte)) result (state_of self.new) }
     {
         match scan(at, part, text, byte)? {
             Progress::Done(text) => self.mode = Mode::After(Json::Str(text.into_text())),
@@ -289,7 +299,8 @@ impl Reader {
 
     #[tactic(auto, unfolding(crate::specs::Machine::first_name_step))]
     fn first_name(&mut self, at: u64, byte: u8) -> Result<(), Refusal>
-        ensures { spec.Steps (spec.first_name_step (frames_of self.old) at byte) result (state_of self.new) }
+        ensures { spec.Steps (spec.first_name_step (frames_of self.old) at byte) result
+            (state_of self.new) }
     {
         if is_blank(byte) {
             self.mode = Mode::FirstName;
@@ -310,7 +321,8 @@ impl Reader {
 
     #[tactic(auto, unfolding(crate::specs::Machine::next_name_step))]
     fn next_name(&mut self, at: u64, members: Members, byte: u8) -> Result<(), Refusal>
-        ensures { spec.Steps (spec.next_name_step (frames_of self.old) at members byte) result (state_of self.new) }
+        ensures { spec.Steps (spec.next_name_step (frames_of self.old) at members byte) result
+            (state_of self.new) }
     {
         if is_blank(byte) {
             self.mode = Mode::NextName(members);
@@ -325,7 +337,8 @@ impl Reader {
 
     #[tactic(auto, unfolding(crate::specs::Machine::named))]
     fn named(&mut self, members: Members, place: u64, name: Text) -> Result<(), Refusal>
-        ensures { spec.Steps (spec.named true (frames_of self.old) members place name) result (state_of self.new) }
+        ensures { spec.Steps (spec.named true (frames_of self.old) members place name) result
+            (state_of self.new) }
     {
         let mut members = members;
         if members.meets(&name)? {
@@ -345,7 +358,8 @@ impl Reader {
         byte: u8,
     ) -> Result<(), Refusal>
         requires { HoldsText (modes.Naming members place part text) }
-        ensures { spec.Steps (spec.naming_by true (frames_of self.old) members place (strings.scan false at part text byte)) result (state_of self.new) }
+        ensures { spec.Steps (spec.naming_by true (frames_of self.old) members place
+            (strings.scan false at part text byte)) result (state_of self.new) }
     {
         match scan(at, part, text, byte)? {
             Progress::Done(name) => self.named(members, place, name.into_text()),
@@ -358,7 +372,8 @@ impl Reader {
 
     #[tactic(auto, unfolding(crate::specs::Machine::colon_step))]
     fn colon(&mut self, members: Members, name: Text, byte: u8) -> Result<(), Refusal>
-        ensures { spec.Steps (spec.colon_step (frames_of self.old) members name byte) result (state_of self.new) }
+        ensures { spec.Steps (spec.colon_step (frames_of self.old) members name byte) result
+            (state_of self.new) }
     {
         if is_blank(byte) {
             self.mode = Mode::Colon(members, name);
@@ -375,7 +390,8 @@ impl Reader {
     #[tactic(auto, unfolding(crate::specs::Machine::step))]
     fn step(&mut self, at: u64, byte: u8) -> Result<(), Refusal>
         requires { HoldsText (state_of self.old).mode }
-        ensures { spec.Steps (spec.step strict at (state_of self.old) byte) result (state_of self.new) }
+        ensures { spec.Steps (spec.step strict at (state_of self.old) byte) result
+            (state_of self.new) }
     {
         match mem::replace(&mut self.mode, Mode::Value) {
             Mode::Value => self.value(byte),
@@ -457,7 +473,8 @@ pub fn read(alloc: Global, bytes: &[u8]) -> Result<Json, JsonFault>
     ensures found { IfOk result (λ v. IsText strict v bytes.now) }
 
     // The value of a text is read, unless memory runs out.
-    ensures only { (v : Json) → IsText strict v bytes.now → MatchResult result (λ w. w ≡ v) (λ x. x ≡ faults.Memory) }
+    ensures only { (v : Json) → IsText strict v bytes.now
+        → MatchResult result (λ w. w ≡ v) (λ x. x ≡ faults.Memory) }
 
     // Any other text has this fault, its first from the left, unless memory runs out.
     ensures fault { IfErr result (Explains bytes.now) }

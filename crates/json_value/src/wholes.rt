@@ -14,7 +14,8 @@ fn is_digit(byte: u8) -> bool
 
 fn digits_number(digits: &[u8]) -> Option<u64>
     requires { length digits.now ≤ 15 }
-    ensures { MatchOption result (AreDigits digits.now → ⊥) (λ n. AreDigits digits.now × (n ≡ digits_value 10 digits.now)) }
+    ensures { MatchOption result (AreDigits digits.now → ⊥)
+        (λ n. AreDigits digits.now × (n ≡ digits_value 10 digits.now)) }
 {
     let mut number = 0u64;
     for i in 0..digits.len() {

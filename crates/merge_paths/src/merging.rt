@@ -83,7 +83,8 @@ pub fn blank(alloc: Global) -> (Text, Json) {
 
 /// The index of the first member with this name.
 pub fn first_named(members: &[(Text, Json)], name: &str) -> Option<usize>
-    ensures { MatchOption result (named name.now members.now ≡ None) (IsFirst name.now members.now) }
+    ensures { MatchOption result (named name.now members.now ≡ None)
+        (IsFirst name.now members.now) }
 {
     for i in 0..members.len() {
         if members[i].0.as_str() == name {

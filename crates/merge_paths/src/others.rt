@@ -117,7 +117,8 @@ fn take_indexed(names: &IndexSet<Text>, values: &mut Vec<Option<Json>>, name: &T
     requires differ { IsDistinct bytes_eq names.now.keys }
     requires long { length values.old.items ≡ length names.now.keys }
     ensures value { result ≡ named name.now (back names.now.keys values.old.items) }
-    ensures rest { back names.now.keys values.new.items ≡ without name.now (back names.now.keys values.old.items) }
+    ensures rest { back names.now.keys values.new.items
+        ≡ without name.now (back names.now.keys values.old.items) }
     ensures long { length values.new.items ≡ length names.now.keys }
 {
     let Some(index) = names.get_index_of(name) else {

@@ -9,6 +9,7 @@ use json_value::Json;
 
 /// A value is one plan file at most, or has one fault: its first.
 pub fn plan_file_is_one(value: &Json)
-    ensures { (a : Result (List books.Entry) faults.PlanFault) → (b : Result (List books.Entry) faults.PlanFault)
+    ensures { (a : Result (List books.Entry) faults.PlanFault)
+        → (b : Result (List books.Entry) faults.PlanFault)
         → IsPlanFile value.now a → IsPlanFile value.now b → a ≡ b }
 {}

@@ -17,7 +17,8 @@ use plan_tree::{Fetch, Node, Plan};
 
 /// A law, with nothing to run: no fetch is ready whose pieces are given.
 pub fn what_is_given_is_not_asked(fetches: &[Fetch], given: &[Done], node: &Node)
-    ensures { (v : Json) (w : Waiting) → Among w (ready fetches.now given.now node.now v) → pieces_of given.now w.fetch ≡ None }
+    ensures { (v : Json) (w : Waiting) → Among w (ready fetches.now given.now node.now v)
+        → pieces_of given.now w.fetch ≡ None }
 {}
 
 /// A law, with nothing to run: what is ready and is not given now stays ready, with the same start value and in the same
@@ -42,8 +43,10 @@ pub fn a_finished_node_keeps_its_value(fetches: &[Fetch], given: &[Done], node: 
 
 /// A law, with nothing to run: nothing is ready exactly where each fetch is given or is passed over.
 pub fn nothing_ready_is_the_end(fetches: &[Fetch], given: &[Done], node: &Node)
-    ensures ended { (v : Json) → IsEnded fetches.now given.now node.now v → ready fetches.now given.now node.now v ≡ [] }
-    ensures end { (v : Json) → ready fetches.now given.now node.now v ≡ [] → IsEnded fetches.now given.now node.now v }
+    ensures ended { (v : Json) → IsEnded fetches.now given.now node.now v
+        → ready fetches.now given.now node.now v ≡ [] }
+    ensures end { (v : Json) → ready fetches.now given.now node.now v ≡ []
+        → IsEnded fetches.now given.now node.now v }
 {}
 
 /// A law, with nothing to run: where a plan's fetches are done to the end, one at a time or in rounds, those of the order

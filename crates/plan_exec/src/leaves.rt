@@ -25,8 +25,10 @@ pub fn run_root(
     asking: bool,
     tasks: &mut Vec<Task>,
 ) -> Result<Json, Memory>
-    ensures value { IfOk result (λ v. v ≡ merge_spec.merge start (root_piece (pieces_of given.now fetch))) }
-    ensures tasks { OnOk result (tasks.new.items ≡ tasks.old.items ++ asked_if asking (root_tasks (pieces_of given.now fetch) fetch)) }
+    ensures value { IfOk result (λ v. v
+        ≡ merge_spec.merge start (root_piece (pieces_of given.now fetch))) }
+    ensures tasks { OnOk result (tasks.new.items ≡ tasks.old.items
+        ++ asked_if asking (root_tasks (pieces_of given.now fetch) fetch)) }
 {
     let Some(done) = done_of(given, fetch) else {
         ask_root(fetch, asking, tasks)?;
@@ -39,7 +41,8 @@ pub fn run_root(
 }
 
 fn ask_root(fetch: u64, asking: bool, tasks: &mut Vec<Task>) -> Result<(), Memory>
-    ensures { OnOk result (tasks.new.items ≡ tasks.old.items ++ asked_if asking (root_tasks None fetch)) }
+    ensures { OnOk result (tasks.new.items ≡ tasks.old.items
+        ++ asked_if asking (root_tasks None fetch)) }
 {
     if !asking {
         return Ok(());
@@ -60,7 +63,9 @@ pub fn run_entities(
     asking: bool,
     tasks: &mut Vec<Task>,
 ) -> Result<Json, Memory>
-    ensures value { IfOk result (λ v. v ≡ with_entities start (rep.used_by (reps_for fetches.now start path.now fetch)) (entities (pieces_of given.now fetch))) }
+    ensures value { IfOk result (λ v. v
+        ≡ with_entities start (rep.used_by (reps_for fetches.now start path.now fetch))
+        (entities (pieces_of given.now fetch))) }
     ensures tasks { OnOk result (tasks.new.items ≡ tasks.old.items
         ++ asked_if asking (map (task_of fetches.now) (unless_given (pieces_of given.now fetch) (if_any (reps_for fetches.now start path.now fetch) (record { fetch = fetch; path = Some path.now; start = start }))))) }
 {
@@ -110,8 +115,10 @@ fn gather_for(
     path: &Path,
     fetch: u64,
 ) -> Result<Gathered, Memory>
-    ensures distinct { IfOk result (λ g. g.distinct ≡ rep.distinct (reps_for fetches.now value.now path.now fetch)) }
-    ensures used_by { IfOk result (λ g. g.used_by ≡ rep.used_by (reps_for fetches.now value.now path.now fetch)) }
+    ensures distinct { IfOk result (λ g. g.distinct
+        ≡ rep.distinct (reps_for fetches.now value.now path.now fetch)) }
+    ensures used_by { IfOk result
+        (λ g. g.used_by ≡ rep.used_by (reps_for fetches.now value.now path.now fetch)) }
 {
     if let Some(fetch) = at(fetches, fetch as usize) {
         if let Some(needs) = &fetch.needs {
@@ -127,7 +134,8 @@ fn gather_for(
 
 /// The first that is given for a fetch.
 fn done_of(given: &[Done], fetch: u64) -> Option<&Done>
-    ensures { MatchOption result (pieces_of given.now fetch ≡ None) (λ d. pieces_of given.now fetch ≡ Some d.now.pieces) }
+    ensures { MatchOption result (pieces_of given.now fetch ≡ None)
+        (λ d. pieces_of given.now fetch ≡ Some d.now.pieces) }
 {
     for done in given {
         if done.fetch == fetch {

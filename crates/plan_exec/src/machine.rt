@@ -28,7 +28,8 @@ impl Model for Machine {
 
     ghost Value = { Progress };
 
-    ghost coded = { Prim.hlevel (codes, node_row.the_row.coded, need_row.the_row.coded, json_row.the_row.coded) };
+    ghost coded = { Prim.hlevel
+        (codes, node_row.the_row.coded, need_row.the_row.coded, json_row.the_row.coded) };
 
     ghost view = { λ m. record { plan = m.plan; given = m.given.items } };
 
@@ -50,7 +51,8 @@ impl Machine {
         ensures machine { IfOk result (λ m. m ≡ record { plan = plan.now; given = [] }) }
         // No more rounds come than the plan has fetches, since each leaves fewer.
         ensures bound { IfOk result (λ m. fetches_left m ≡ length (numbers plan.now.root)) }
-        ensures lawful { IfOk result (λ m. IsLawful plan.now → fetches_left m ≡ length plan.now.fetches) }
+        ensures lawful { IfOk result
+            (λ m. IsLawful plan.now → fetches_left m ≡ length plan.now.fetches) }
     {
         let plan = plan.copy(alloc)?;
         let given = Vec::new(alloc);
@@ -67,9 +69,11 @@ impl Machine {
     /// The ready fetches in the plan's order. A Flatten without representations is passed over. Fails only for want of
     /// memory.
     pub fn asks(&self) -> Result<Vec<Task>, Memory>
-        ensures tasks { IfOk result (λ tasks. tasks.items ≡ map (task_of self.now.plan.fetches) (waiting self.now)) }
+        ensures tasks { IfOk result
+            (λ tasks. tasks.items ≡ map (task_of self.now.plan.fetches) (waiting self.now)) }
         // What is asked was not given before.
-        ensures fresh { IfOk result (λ tasks. (t : Task) → Among t tasks.items → pieces_of self.now.given t.fetch ≡ None) }
+        ensures fresh { IfOk result
+            (λ tasks. (t : Task) → Among t tasks.items → pieces_of self.now.given t.fetch ≡ None) }
     {
         let tasks = copy_tasks(self.alloc, &self.ready)?;
         Ok(tasks)
@@ -78,10 +82,12 @@ impl Machine {
     /// Gives the pieces of some of the ready fetches. After want of memory the machine is as before.
     pub fn give(&mut self, results: Vec<Done>) -> Result<(), Memory>
         requires { CanTake self.old results.items }
-        ensures ok { OnOk result (self.new ≡ record { plan = self.old.plan; given = self.old.given ++ results.items }) }
+        ensures ok { OnOk result (self.new
+            ≡ record { plan = self.old.plan; given = self.old.given ++ results.items }) }
         ensures err { OnErr result (self.new ≡ self.old) }
         // What was ready and is not given yet stays ready, with the same start values and in the same order.
-        ensures others { OnOk result (IsPart (still_open self.new.given (waiting self.old)) (waiting self.new)) }
+        ensures others { OnOk result
+            (IsPart (still_open self.new.given (waiting self.old)) (waiting self.new)) }
         ensures fewer { OnOk result (fetches_left self.new < fetches_left self.old) }
     {
         let (whole, ready) = advance(self.alloc, &self.plan, &mut self.given, results)?;

@@ -64,7 +64,8 @@ fn run_in_turn(
     asking: bool,
     tasks: &mut Vec<Task>,
 ) -> Result<Json, Memory>
-    ensures value { IfOk result (λ v. v ≡ in_turn (map (exec fetches.now given.now) nodes.now) start) }
+    ensures value { IfOk result (λ v. v
+        ≡ in_turn (map (exec fetches.now given.now) nodes.now) start) }
     ensures tasks { OnOk result (tasks.new.items ≡ tasks.old.items
         ++ asked_if asking (map (task_of fetches.now) (first_of fetches.now given.now nodes.now start))) }
 {
@@ -88,7 +89,8 @@ fn run_side_by_side(
     asking: bool,
     tasks: &mut Vec<Task>,
 ) -> Result<Json, Memory>
-    ensures value { IfOk result (λ v. v ≡ side_by_side (map (exec fetches.now given.now) nodes.now) start.now start.now) }
+    ensures value { IfOk result (λ v. v
+        ≡ side_by_side (map (exec fetches.now given.now) nodes.now) start.now start.now) }
     ensures tasks { OnOk result (tasks.new.items ≡ tasks.old.items
         ++ asked_if asking (map (task_of fetches.now) (each_of fetches.now given.now nodes.now start.now))) }
 {

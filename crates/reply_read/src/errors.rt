@@ -29,7 +29,8 @@ fn messages(alloc: Global, errors: &[Json]) -> Result<Vec<Text>, Memory>
 
 /// The texts of the errors, from the member `errors`; None where it is in another form.
 pub fn error_texts(alloc: Global, errors: Option<&Json>) -> Result<Option<Vec<Text>>, Memory>
-    ensures { IfOk result (λ found. option_map (λ v. v.items) found ≡ spec.error_texts (option_copied errors.entry)) }
+    ensures { IfOk result
+        (λ found. option_map (λ v. v.items) found ≡ spec.error_texts (option_copied errors.entry)) }
 {
     match errors {
         None => Ok(Some(Vec::new(alloc))),

@@ -25,7 +25,8 @@ fn texts_of(alloc: Global, values: &[Json]) -> Result<Vec<Text>, Memory>
 
 /// The texts of `cacheTags`; None where it is in another form.
 fn common_texts(alloc: Global, value: Option<&Json>) -> Result<Option<Vec<Text>>, Memory>
-    ensures { IfOk result (λ found. option_map (λ v. v.items) found ≡ spec.common_texts (option_copied value.entry)) }
+    ensures { IfOk result
+        (λ found. option_map (λ v. v.items) found ≡ spec.common_texts (option_copied value.entry)) }
 {
     match value {
         None => Ok(Some(Vec::new(alloc))),
@@ -146,7 +147,8 @@ fn entity_tags(
     common: Vec<Text>,
     own: &Json,
 ) -> Result<Vec<Tags>, Memory>
-    ensures { IfOk result (λ tags. tags.items ≡ spec.tags_with (sent.Entities count) common.items (Some own.now)) }
+    ensures { IfOk result (λ tags. tags.items
+        ≡ spec.tags_with (sent.Entities count) common.items (Some own.now)) }
 {
     match own {
         Json::List(lists) => {
@@ -167,7 +169,8 @@ fn tags_with(
     common: Vec<Text>,
     own: Option<&Json>,
 ) -> Result<Vec<Tags>, Memory>
-    ensures { IfOk result (λ tags. tags.items ≡ spec.tags_with sent.now common.items (option_copied own.entry)) }
+    ensures { IfOk result (λ tags. tags.items
+        ≡ spec.tags_with sent.now common.items (option_copied own.entry)) }
 {
     match own {
         None => {
@@ -187,7 +190,8 @@ pub fn reply_tags(
     sent: &Sent,
     extensions: Option<&Json>,
 ) -> Result<Vec<Tags>, Memory>
-    ensures { IfOk result (λ tags. tags.items ≡ spec.reply_tags sent.now (option_copied extensions.entry)) }
+    ensures { IfOk result
+        (λ tags. tags.items ≡ spec.reply_tags sent.now (option_copied extensions.entry)) }
 {
     let Some(extensions) = extensions else {
         return tags_with(alloc, sent, Vec::new(alloc), None);

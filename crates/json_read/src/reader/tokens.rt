@@ -74,7 +74,8 @@ fn plain_text(alloc: Global, bytes: &[u8]) -> Result<Text, AllocError>
 fn plain_name(bytes: &[u8]) -> Option<usize>
     ensures within { IfSome result (λ n. n + 2 ≤ length bytes.now) }
     ensures plain { IfSome result (λ n. Unescaped (take n bytes.now)) }
-    ensures ends { IfSome result (λ n. take (n + 2) bytes.now ≡ take n bytes.now ++ (34 ∷ (58 ∷ []))) }
+    ensures ends { IfSome result
+        (λ n. take (n + 2) bytes.now ≡ take n bytes.now ++ (34 ∷ (58 ∷ []))) }
 {
     let n = plain_length(bytes);
     match &bytes[n..] {
@@ -113,7 +114,9 @@ impl Reader {
         requires within { n + 2 ≤ length tail.now }
         requires plain { Unescaped (take n tail.now) }
         requires ends { take (n + 2) tail.now ≡ take n tail.now ++ (34 ∷ (58 ∷ [])) }
-        ensures goes { Reaches (34 ∷ tail.now) at (record { mode = modes.NextName members; frames = frames_of self.old }) result (state_of self.new) }
+        ensures goes { Reaches (34 ∷ tail.now) at
+            (record { mode = modes.NextName members; frames = frames_of self.old }) result
+            (state_of self.new) }
         ensures some { IfOk result (λ k. 0 < k) }
     {
         let name = plain_text(self.alloc, &tail[..n])?;
@@ -130,7 +133,9 @@ impl Reader {
     /// At the next name, where it stands whole.
     fn name_at(&mut self, members: Members, at: usize, bytes: &[u8]) -> Result<usize, JsonFault>
         requires { at + length bytes.now < 2 ^ 64 }
-        ensures { Reaches bytes.now at (record { mode = modes.NextName members; frames = frames_of self.old }) result (state_of self.new) }
+        ensures { Reaches bytes.now at
+            (record { mode = modes.NextName members; frames = frames_of self.old }) result
+            (state_of self.new) }
     {
         if let [b'"', tail @ ..] = bytes {
             if let Some(n) = plain_name(tail) {
@@ -149,7 +154,9 @@ impl Reader {
         bytes: &[u8],
     ) -> Result<usize, JsonFault>
         requires { at + length bytes.now < 2 ^ 64 }
-        ensures { Reaches bytes.now at (record { mode = modes.NextName members; frames = frames_of self.old }) result (state_of self.new) }
+        ensures { Reaches bytes.now at
+            (record { mode = modes.NextName members; frames = frames_of self.old }) result
+            (state_of self.new) }
     {
         let b = blank_length(bytes);
         match self.name_at(members, at + b, &bytes[b..]) {
@@ -168,7 +175,11 @@ impl Reader {
         bytes: &[u8],
     ) -> Result<usize, JsonFault>
         requires { at + length bytes.now + 1 < 2 ^ 64 }
-        ensures { Takes (44 ∷ bytes.now) at (record { mode = modes.After value; frames = Member members name ∷ frames_of self.old }) result (state_of self.new) }
+        ensures { Takes (44 ∷ bytes.now) at
+            (record {
+              mode = modes.After value;
+              frames = Member members name ∷ frames_of self.old;
+            }) result (state_of self.new) }
     {
         let members = members.with(name, value)?;
         match self.next_name_read(members, at + 1, bytes) {
@@ -180,7 +191,9 @@ impl Reader {
     /// After a value, a comma.
     fn comma(&mut self, value: Json, at: usize, bytes: &[u8]) -> Result<usize, JsonFault>
         requires { at + length bytes.now + 1 < 2 ^ 64 }
-        ensures { Takes (44 ∷ bytes.now) at (record { mode = modes.After value; frames = frames_of self.old }) result (state_of self.new) }
+        ensures { Takes (44 ∷ bytes.now) at
+            (record { mode = modes.After value; frames = frames_of self.old }) result
+            (state_of self.new) }
     {
         match self.frames.pop() {
             None => Err(JsonFault::Syntax(at as u64)),
@@ -223,7 +236,9 @@ impl Reader {
     /// After a value that no bracket follows at once.
     fn value_kept(&mut self, value: Json, at: usize, bytes: &[u8]) -> Result<usize, JsonFault>
         requires { at + length bytes.now < 2 ^ 64 }
-        ensures { Takes bytes.now at (record { mode = modes.After value; frames = frames_of self.old }) result (state_of self.new) }
+        ensures { Takes bytes.now at
+            (record { mode = modes.After value; frames = frames_of self.old }) result
+            (state_of self.new) }
     {
         match bytes {
             [] => {
@@ -245,7 +260,9 @@ impl Reader {
     /// After a value.
     fn value_read(&mut self, value: Json, at: usize, bytes: &[u8]) -> Result<usize, JsonFault>
         requires { at + length bytes.now < 2 ^ 64 }
-        ensures { Takes bytes.now at (record { mode = modes.After value; frames = frames_of self.old }) result (state_of self.new) }
+        ensures { Takes bytes.now at
+            (record { mode = modes.After value; frames = frames_of self.old }) result
+            (state_of self.new) }
     {
         let mut value = value;
         let mut i = 0;
@@ -312,7 +329,8 @@ impl Reader {
     fn word_read(&mut self, word: Word, at: usize, after: &[u8]) -> Result<usize, JsonFault>
         requires place { at + length (letters word) + length after.now < 2 ^ 64 }
         requires mode { self.old.mode ≡ modes.Value }
-        ensures { Takes (letters word ++ after.now) at (state_of self.old) result (state_of self.new) }
+        ensures { Takes (letters word ++ after.now) at (state_of self.old) result
+            (state_of self.new) }
     {
         let n = letters(word).len();
         match self.value_read(meant(word), at + n, after) {
@@ -462,7 +480,9 @@ impl Reader {
     ) -> Result<usize, JsonFault>
         requires place { at + length bytes.now < 2 ^ 64 }
         requires holds { HoldsText (modes.Str part text) }
-        ensures { Takes bytes.now at (record { mode = modes.Str part text; frames = frames_of self.old }) result (state_of self.new) }
+        ensures { Takes bytes.now at
+            (record { mode = modes.Str part text; frames = frames_of self.old }) result
+            (state_of self.new) }
     {
         match read_on(at, part, text, bytes) {
             Err(fault) => Err(fault),

@@ -1,0 +1,15 @@
+-- What holds of texts, of their values and of their faults.
+use Rattle.std.specs.Prelude.{◌≡◌, ◌≢◌, ℕ, List}
+use Rattle.json_value.specs.declared.tree.Json.{Json}
+use Rattle.json_value.specs.declared.fault.JsonFault.{JsonFault}
+use Rattle.json_value.specs.declared.fault.JsonFault.TheVariants as fault
+use Rattle.json_value.specs.Grammar.{Rules, IsText}
+use Rattle.json_read.specs.Faults.{Explains}
+
+-- What explains why a text was not read explains it by one fault, at one place.
+abbrev pub JsonTextsHaveOneFault : Type 0
+JsonTextsHaveOneFault = (bytes : List ℕ) (f g : JsonFault) → f ≢ fault.Memory → g ≢ fault.Memory → Explains bytes f → Explains bytes g → f ≡ g
+
+-- A text stands for one value at most.
+abbrev pub JsonTextsHaveOneValue : Rules → Type 0
+JsonTextsHaveOneValue r = (v w : Json) (text : List ℕ) → IsText r v text → IsText r w text → v ≡ w
