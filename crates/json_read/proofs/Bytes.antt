@@ -3,16 +3,16 @@ use Rattle.std.proofs.Common.{◌≡◌, ℕ, suc, ◌+◌, ◌<◌, true, false
 use Rattle.std.specs.Prelude.{◌==◌, ◌&&◌}
 use Rattle.std.proofs.lemmas.Bool.{cond-false, ne_eqb, and_left}
 use Rattle.std.proofs.Math.Facts.{Fits-lt-pow}
-use Rattle.json_read.specs.declared.refusal.Refusal.{Refusal}
-use Rattle.json_read.specs.declared.reader.Mode.{Mode}
-use Rattle.json_read.specs.declared.reader.Mode.TheVariants as m
-use Rattle.json_read.specs.declared.string.Part.{Part}
-use Rattle.json_read.specs.declared.string.Part.TheVariants as p
+use Rattle.json_read.specs.Refusal.{Refusal}
+use Rattle.json_read.specs.Mode.{Mode}
+use Rattle.json_read.specs.Mode as m
+use Rattle.json_read.specs.Part.{Part}
+use Rattle.json_read.specs.Part as p
 use Rattle.json_value.specs.Grammar.{strict}
 use Rattle.json_read.specs.Faults.{lone}
 use Rattle.json_read.specs.Scan.{is_cut, hex_scan, scan}
 use Rattle.exact_read.specs.Steps.{run, on_step}
-use Rattle.json_read.specs.Machine.{State, str_by, naming_by, step_by, step}
+use Rattle.json_read.specs.Machine.{ReaderState, str_by, naming_by, step_by, step}
 
 abbrev pub AreBytes : List ℕ → Type 0
 AreBytes [] = Unit {0}
@@ -28,7 +28,7 @@ scan_same at (p.Letter place high) text b lt = refl
 scan_same at (p.Low place high quad) text b lt = refl
 scan_same at (p.Wide place tail) text b lt = refl
 
-step_same : (at : ℕ) (x : State) (b : ℕ) → b < 256 → step strict at x b ≡ step lone at x b
+step_same : (at : ℕ) (x : ReaderState) (b : ℕ) → b < 256 → step strict at x b ≡ step lone at x b
 unfolding step
 step_same at x b lt = by_mode x.mode
   where
@@ -44,12 +44,12 @@ step_same at x b lt = by_mode x.mode
     by_mode (m.Naming ms place part text) = ap (naming_by true x.frames ms place) (scan_same at part text b lt)
     by_mode (m.Colon ms n) = refl
 
-pub run_same : (ts : List ℕ) (at : ℕ) (x : State) → AreBytes ts → run (step strict) ts at x ≡ run (step lone) ts at x
+pub run_same : (ts : List ℕ) (at : ℕ) (x : ReaderState) → AreBytes ts → run (step strict) ts at x ≡ run (step lone) ts at x
 unfolding run
 run_same [] at x are = refl
-run_same (t ∷ ts) at x are = ap (λ (o : Result State Refusal). on_step (step strict) at o (run (step strict) ts (at + 1))) (step_same at x t are.0) ∙ go (step lone at x t) (λ mid. run_same ts (at + 1) mid are.1)
+run_same (t ∷ ts) at x are = ap (λ (o : Result ReaderState Refusal). on_step (step strict) at o (run (step strict) ts (at + 1))) (step_same at x t are.0) ∙ go (step lone at x t) (λ mid. run_same ts (at + 1) mid are.1)
   where
-    go : (o : Result State Refusal) → ((mid : State) → run (step strict) ts (at + 1) mid ≡ run (step lone) ts (at + 1) mid)
+    go : (o : Result ReaderState Refusal) → ((mid : ReaderState) → run (step strict) ts (at + 1) mid ≡ run (step lone) ts (at + 1) mid)
         → on_step (step strict) at o (run (step strict) ts (at + 1)) ≡ on_step (step lone) at o (run (step lone) ts (at + 1))
     go (Ok mid) tail = tail mid
     go (Err why) tail = refl

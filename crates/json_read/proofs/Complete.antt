@@ -6,20 +6,20 @@ use Rattle.std.proofs.lemmas.List.{drop_all, append-nil}
 use Rattle.std.proofs.Math.Seq.{drop-cons}
 use Rattle.json_value.specs.declared.tree.Json.{Json}
 use Rattle.json_value.specs.declared.tree.Json.TheVariants as j
-use Rattle.json_read.specs.declared.reader.Word.{Word}
-use Rattle.json_read.specs.declared.reader.Word.TheVariants as words
-use Rattle.json_read.specs.declared.reader.Mode.{Mode}
-use Rattle.json_read.specs.declared.reader.Mode.TheVariants as m
-use Rattle.json_read.specs.declared.reader.Frame.TheVariants as f
+use Rattle.json_read.specs.declared.words.Word.{Word}
+use Rattle.json_read.specs.declared.words.Word.TheVariants as words
+use Rattle.json_read.specs.Mode.{Mode}
+use Rattle.json_read.specs.Mode as m
+use Rattle.json_read.specs.Frame as f
 use Rattle.json_read.specs.declared.number.Digit.{Digit}
 use Rattle.json_read.specs.declared.number.Digit.TheVariants as dg
-use Rattle.json_read.specs.declared.string.Part.{Part}
-use Rattle.json_read.specs.declared.string.Part.TheVariants as p
+use Rattle.json_read.specs.Part.{Part}
+use Rattle.json_read.specs.Part as p
 use Rattle.json_value.specs.Numbers.{is_digit, is_e}
 use Rattle.json_read.specs.Numbers.{number_start, number_next}
 use Rattle.json_value.specs.Grammar.{Rules, is_blank, has, Spells, null, yes, no, number, string, empty, list, bare, object, Rest, close, more, Pair, pair, Members, shut, another}
 use Rattle.json_read.specs.Scan.{scan}
-use Rattle.json_read.specs.Machine.{Frames, Pairs, Outcome, to, letters, meant, number_by, open_by, begin, value_step, first_step, after_step, word_step, number_step, str_by, first_name_step, next_name_step, named, naming_by, colon_step, step_by}
+use Rattle.json_read.specs.Machine.{Frames, Pairs, Stepped, to, letters, meant, number_by, open_by, begin, value_step, first_step, after_step, word_step, number_step, str_by, first_name_step, next_name_step, named, naming_by, colon_step, step_by}
 use Rattle.json_read.specs.Left.{TextLeft}
 use Rattle.json_read.proofs.NumberTexts.{number_reads}
 use Rattle.json_read.proofs.TextsGo.{IsPart, ScanGoes, scan_goes, heads}
@@ -34,7 +34,7 @@ IsValid (m.Naming ms place part text) = IsPart part
 IsValid _ = Unit {0}
 
 -- the outcome is a state in which the rest may follow
-pub record Goes (r : Rules) (o : Outcome) (w : List ℕ) (v : Json) : Type 0 where
+pub record Goes (r : Rules) (o : Stepped) (w : List ℕ) (v : Json) : Type 0 where
   pub mode : Mode
   pub frames : Frames
   pub steps : o ≡ to mode frames
@@ -125,7 +125,7 @@ begin_goes r fs _ _ _ t w b v (empty {d} s blank) is cut left =
     (rw h.0 refl, rw h.0 refl, rw h.0 (open_goes r m.First fs d w v (sym is) tt (inl (s, b, blank, h.1 ∙ append_assoc s (93 ∷ []) b, left))))
 begin_goes r fs _ _ _ t w b v (list {d} s x a xs c blank spelled rest) is cut left =
     let h = heads t 91 w ((s ++ (a ++ c)) ++ b) cut in
-    let deep : d ≡ room r (f.List [] ∷ fs) = omega arith in (
+    let deep : d ≡ room r (f.Items [] ∷ fs) = omega arith in (
       rw h.0 refl,
       rw h.0 refl,
       rw h.0 (open_goes r m.First fs d w v (sym is) tt (inr (s, x, a, c ++ b, blank, rw (← deep) spelled, h.1 ∙ simp append_assoc, (xs, c, b, rw (← deep) rest, refl, left)))),
@@ -169,26 +169,26 @@ first_goes r fs t w v (inl (c ∷ s, b, blank, cut, left)) =
     let h = heads t c w (s ++ (93 ∷ b)) cut in
     record { mode = m.First; frames = fs; steps = rw (h.0, blank.0) refl; valid = tt; left = inl (s, b, blank.1, h.1, left) }
 first_goes r fs t w v (inr ([], x, a, b, blank, spelled, cut, left)) =
-    let g = begin_goes r (f.List [] ∷ fs) (room r (f.List [] ∷ fs)) x a t w b v spelled refl cut left in
+    let g = begin_goes r (f.Items [] ∷ fs) (room r (f.Items [] ∷ fs)) x a t w b v spelled refl cut left in
     rw (g.0, g.1) g.2
 first_goes r fs t w v (inr (c ∷ s, x, a, b, blank, spelled, cut, left)) =
     let h = heads t c w (s ++ (a ++ b)) cut in
     record { mode = m.First; frames = fs; steps = rw (h.0, blank.0) refl; valid = tt; left = inr (s, x, a, b, blank.1, spelled, h.1, left) }
 
-rest_goes : (r : Rules) (xs : List Json) (fs : Frames) (x : Json) (d : ℕ) (ys : List Json) (a : List ℕ) (t : ℕ) (w b : List ℕ) (v : Json) → Rest r d ys a → d ≡ room r (f.List xs ∷ fs) → t ∷ w ≡ a ++ b
-    → AfterLeft r fs (j.List (xs ++ (x ∷ ys))) b v → Goes r (after_step (f.List xs ∷ fs) x t) w v
+rest_goes : (r : Rules) (xs : List Json) (fs : Frames) (x : Json) (d : ℕ) (ys : List Json) (a : List ℕ) (t : ℕ) (w b : List ℕ) (v : Json) → Rest r d ys a → d ≡ room r (f.Items xs ∷ fs) → t ∷ w ≡ a ++ b
+    → AfterLeft r fs (j.List (xs ++ (x ∷ ys))) b v → Goes r (after_step (f.Items xs ∷ fs) x t) w v
 unfolding after_step
 rest_goes r xs fs x d _ _ t w b v (close [] blank) is cut left =
     let h = heads t 93 w b cut in
     record { mode = m.After (j.List (xs ++ (x ∷ []))); frames = fs; steps = rw h.0 refl; valid = tt; left = rw h.1 left }
 rest_goes r xs fs x d _ _ t w b v (close (c ∷ s) blank) is cut left =
     let h = heads t c w ((s ++ (93 ∷ [])) ++ b) cut in
-    record { mode = m.After x; frames = f.List xs ∷ fs; steps = rw (h.0, blank.0) refl; valid = tt; left = ([], s ++ (93 ∷ []), b, rw (← is) (close s blank.1), h.1, left) }
+    record { mode = m.After x; frames = f.Items xs ∷ fs; steps = rw (h.0, blank.0) refl; valid = tt; left = ([], s ++ (93 ∷ []), b, rw (← is) (close s blank.1), h.1, left) }
 rest_goes r xs fs x d _ _ t w b v (more [] s' y a ys c blank blank' spelled rest) is cut left =
     let h = heads t 44 w ((s' ++ (a ++ c)) ++ b) cut in
     record {
       mode = m.Value;
-      frames = f.List (xs ++ (x ∷ [])) ∷ fs;
+      frames = f.Items (xs ++ (x ∷ [])) ∷ fs;
       steps = rw h.0 refl;
       valid = tt;
       left = (
@@ -204,7 +204,7 @@ rest_goes r xs fs x d _ _ t w b v (more [] s' y a ys c blank blank' spelled rest
     }
 rest_goes r xs fs x d _ _ t w b v (more (k ∷ s) s' y a ys c blank blank' spelled rest) is cut left =
     let h = heads t k w ((s ++ (44 ∷ (s' ++ (a ++ c)))) ++ b) cut in
-    record { mode = m.After x; frames = f.List xs ∷ fs; steps = rw (h.0, blank.0) refl; valid = tt; left = (y ∷ ys, s ++ (44 ∷ (s' ++ (a ++ c))), b, rw (← is) (more s s' y a ys c blank.1 blank' spelled rest), h.1, left) }
+    record { mode = m.After x; frames = f.Items xs ∷ fs; steps = rw (h.0, blank.0) refl; valid = tt; left = (y ∷ ys, s ++ (44 ∷ (s' ++ (a ++ c))), b, rw (← is) (more s s' y a ys c blank.1 blank' spelled rest), h.1, left) }
 
 members_goes : (r : Rules) (ms : Pairs) (n : List ℕ) (fs : Frames) (x : Json) (d : ℕ) (before ys : Pairs) (a : List ℕ) (t : ℕ) (w b : List ℕ) (v : Json) → Members r d before ys a → before ≡ ms ++ ((n, x) ∷ []) → d ≡ r.depth - suc (length fs) → t ∷ w ≡ a ++ b
     → AfterLeft r fs (j.Object (ms ++ ((n, x) ∷ ys))) b v → Goes r (after_step (f.Member ms n ∷ fs) x t) w v
@@ -248,7 +248,7 @@ members_goes r ms n fs x d before _ _ t w b v (another (q ∷ s) s' k y a ys c b
 after_goes : (r : Rules) (fs : Frames) (x : Json) (t : ℕ) (w : List ℕ) (v : Json) → AfterLeft r fs x (t ∷ w) v → Goes r (after_step fs x t) w v
 unfolding after_step
 after_goes r [] x t w v (blank, same) = record { mode = m.After x; frames = []; steps = rw blank.0 refl; valid = tt; left = (blank.1, same) }
-after_goes r (f.List xs ∷ fs) x t w v (ys, a, b, rest, cut, left) = rest_goes r xs fs x (room r (f.List xs ∷ fs)) ys a t w b v rest refl cut left
+after_goes r (f.Items xs ∷ fs) x t w v (ys, a, b, rest, cut, left) = rest_goes r xs fs x (room r (f.Items xs ∷ fs)) ys a t w b v rest refl cut left
 after_goes r (f.Member ms n ∷ fs) x t w v (ys, a, b, others, cut, left) = members_goes r ms n fs x (room r (f.Member ms n ∷ fs)) (ms ++ ((n, x) ∷ [])) ys a t w b v others refl refl cut left
 
 word_goes : (r : Rules) (fs : Frames) (word : Word) (read t : ℕ) (w : List ℕ) (v : Json) → read < length (letters word) → ReadLeft r fs word read (t ∷ w) v → Goes r (word_step fs word read t) w v
@@ -302,7 +302,7 @@ blank_ends t is = by_case (or_cases (t == 32 || t == 9 || t == 10) (t == 13) is)
 
 after_ends_number : (r : Rules) (fs : Frames) (x : Json) (t : ℕ) (w : List ℕ) (v : Json) → AfterLeft r fs x (t ∷ w) v → NoNumber t
 after_ends_number r [] x t w v (blank, same) = blank_ends t blank.0
-after_ends_number r (f.List xs ∷ fs) x t w v (ys, a, b, rest, cut, left) = by_rest _ ys a rest cut
+after_ends_number r (f.Items xs ∷ fs) x t w v (ys, a, b, rest, cut, left) = by_rest _ ys a rest cut
   where
     by_rest : (d : ℕ) (ys : List Json) (a : List ℕ) → Rest r d ys a → t ∷ w ≡ a ++ b → NoNumber t
     by_rest _ _ _ (close [] blank) cut = no_number t 93 (heads t 93 w b cut).0 (record { digit = refl; zero = refl; dot = refl; e = refl; sign = refl })

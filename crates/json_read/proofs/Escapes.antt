@@ -2,18 +2,18 @@
 use Rattle.std.proofs.Common.{◌≡◌, ℕ, suc, ◌+◌, ◌<◌, Bool, true, false, cond, List, [], ◌∷◌, ◌++◌, length, Option, Some, None, Ok, Err, refl, sym, ap, subst, ◌∙◌, arith, append_assoc, length-append}
 use Rattle.std.specs.Prelude.{◌==◌, ◌&&◌, encode_utf8}
 use Rattle.std.proofs.lemmas.Bool.{cond-false, cond-true, false_from_ne_true}
-use Rattle.json_read.specs.declared.refusal.Refusal.{Refusal}
-use Rattle.json_read.specs.declared.refusal.Refusal.TheVariants as e
-use Rattle.json_read.specs.declared.string.Part.{Part}
-use Rattle.json_read.specs.declared.string.Part.TheVariants as p
-use Rattle.json_read.specs.declared.string.Progress.TheVariants as s
-use Rattle.json_read.specs.declared.string.Quad.{Quad}
-use Rattle.json_read.specs.declared.string.Quad.TheVariants as q
+use Rattle.json_read.specs.Refusal.{Refusal}
+use Rattle.json_read.specs.Refusal as e
+use Rattle.json_read.specs.Part.{Part}
+use Rattle.json_read.specs.Part as p
+use Rattle.json_read.specs.Progress as s
+use Rattle.json_read.specs.Quad.{Quad}
+use Rattle.json_read.specs.Quad as q
 use Rattle.json_value.specs.Strings.{hex_digit, is_high, is_low, four_digits, join, IsUnit, digits}
 use Rattle.json_read.specs.Faults.{lone, InString, HighAt, LowAt}
 use Rattle.json_read.specs.Scan.{Scanned, with, scan, plain_scan, escape_scan, unit_scan, hex_by, slash_scan, letter_scan, may_be_low, pair_scan, low_scan, low_by}
 use Rattle.exact_read.specs.Steps.{run}
-use Rattle.json_read.specs.Machine.{Frames, State, step, start}
+use Rattle.json_read.specs.Machine.{Frames, ReaderState, step, start}
 use Rattle.exact_read.proofs.Machines.{ok_is}
 use Rattle.exact_read.proofs.Machines.{run_one, run_split}
 use Rattle.json_read.proofs.TextsGo.{heads, digit_steps, high_not_low}
@@ -42,7 +42,7 @@ unfolding unit_scan
 low_scans place text u lo = cond-false (is_high u) _ _ (false_from_ne_true (is_high u) (λ hi. high_not_low u hi lo)) ∙ cond-true (is_low u) _ _ lo
 
 -- through `\u` and three digits
-three_read : (inner : Inner) (at : ℕ) (text : List ℕ) (fs : Frames) (a b c x y z : ℕ) (rest : List ℕ) (end : State) → hex_digit x ≡ Some a → hex_digit y ≡ Some b → hex_digit z ≡ Some c
+three_read : (inner : Inner) (at : ℕ) (text : List ℕ) (fs : Frames) (a b c x y z : ℕ) (rest : List ℕ) (end : ReaderState) → hex_digit x ≡ Some a → hex_digit y ≡ Some b → hex_digit z ≡ Some c
     → run (step lone) (92 ∷ (117 ∷ (x ∷ (y ∷ (z ∷ rest))))) at (Stand inner p.Plain text fs) ≡ Ok end → run (step lone) rest (at + 1 + 1 + 1 + 1 + 1) (Stand inner (p.Hex at (q.Three a b c)) text fs) ≡ Ok end
 three_read inner at text fs a b c x y z rest end hx hy hz runs =
     let one = run_to inner at p.Plain (p.Escape at) text text fs 92 (117 ∷ (x ∷ (y ∷ (z ∷ rest)))) end (slash_scans at text) runs in
@@ -103,7 +103,7 @@ scan_waiting place at (p.Letter n high) text b holds = subst (λ (m : ℕ). Wait
 scan_waiting place at (p.Low n high quad) text b holds = subst (λ (m : ℕ). Waiting m (p.Low n high quad) text (low_scan n high quad text b)) holds (low_waiting n high quad text b)
 scan_waiting place at (p.Wide n tail) text b holds = absurd holds
 
-stays_waiting : (inner : Inner) (others : List ℕ) (at place : ℕ) (part : Part) (text : List ℕ) (fs : Frames) (z : State) → IsWaiting place part → length others < waits_for part
+stays_waiting : (inner : Inner) (others : List ℕ) (at place : ℕ) (part : Part) (text : List ℕ) (fs : Frames) (z : ReaderState) → IsWaiting place part → length others < waits_for part
     → run (step lone) others at (Stand inner part text fs) ≡ Ok z → Standing (IsWaiting place) z
 unfolding run
 stays_waiting inner [] at place part text fs z holds lt runs = subst (Standing (IsWaiting place)) (ok_is (Stand inner part text fs) z runs) (record { inner = inner; part = part; text = text; is = refl; holds = holds })
@@ -120,29 +120,29 @@ stays_waiting inner (b ∷ others) at place part text fs z holds lt runs = by_sc
 unit_length : (u : ℕ) (ds : List ℕ) → IsUnit u ds → length ds ≡ 4
 unit_length _ _ (digits a b c d x y z w hx hy hz hw) = refl
 
-high_read : (inner : Inner) (at : ℕ) (text : List ℕ) (fs : Frames) (u : ℕ) (ds rest : List ℕ) (end : State) → IsUnit u ds → is_high u ≡ true
+high_read : (inner : Inner) (at : ℕ) (text : List ℕ) (fs : Frames) (u : ℕ) (ds rest : List ℕ) (end : ReaderState) → IsUnit u ds → is_high u ≡ true
     → run (step lone) (92 ∷ (117 ∷ (ds ++ rest))) at (Stand inner p.Plain text fs) ≡ Ok end → run (step lone) rest (at + 1 + 1 + 1 + 1 + 1 + 1) (Stand inner (p.Slash at u) text fs) ≡ Ok end
 high_read inner at text fs _ _ rest end (digits a b c d x y z w hx hy hz hw) hi runs =
     let three = three_read inner at text fs a b c x y z (w ∷ rest) end hx hy hz runs in
     run_to inner (at + 1 + 1 + 1 + 1 + 1) (p.Hex at (q.Three a b c)) (p.Slash at (four_digits a b c d)) text text fs w rest end
     (hex_scans (at + 1 + 1 + 1 + 1 + 1) at (q.Three a b c) text w d hw ∙ high_scans at text (four_digits a b c d) hi) three
 
-pub high_standing : (place : ℕ) (front : List ℕ) (x : State) → HighAt place front → run (step lone) front 0 start ≡ Ok x → Standing (IsWaiting place) x
+pub high_standing : (place : ℕ) (front : List ℕ) (x : ReaderState) → HighAt place front → run (step lone) front 0 start ≡ Ok x → Standing (IsWaiting place) x
 high_standing place front x at is =
     let parts = run_split (step lone) at.before (92 ∷ (117 ∷ (at.digits ++ at.others))) 0 start x (ap (λ (k : List ℕ). run (step lone) k 0 start) (sym at.parts) ∙ is) in
     let k = plain_standing at.before parts.0 at.in_string parts.1 in
     let stands : parts.0 ≡ Stand k.inner p.Plain k.text parts.0.frames = k.is ∙ ap (λ (m : Part). Stand k.inner m k.text parts.0.frames) k.holds in
     let n : ℕ = 0 + length at.before in
-    let there = high_read k.inner n k.text parts.0.frames at.unit at.digits at.others x at.is_unit at.high (ap (λ (m : State). run (step lone) (92 ∷ (117 ∷ (at.digits ++ at.others))) n m) (sym stands) ∙ parts.2) in
+    let there = high_read k.inner n k.text parts.0.frames at.unit at.digits at.others x at.is_unit at.high (ap (λ (m : ReaderState). run (step lone) (92 ∷ (117 ∷ (at.digits ++ at.others))) n m) (sym stands) ∙ parts.2) in
     let long : length (at.others ++ (at.missing ∷ at.more)) ≡ suc (suc 4) = ap length at.begun ∙ ap (λ (m : ℕ). suc (suc m)) (unit_length at.low at.low_digits at.is_low_unit) in
     let fewer : length at.others < 6 = omega (arith, long, length-append at.others (at.missing ∷ at.more)) in
     stays_waiting k.inner at.others (n + 1 + 1 + 1 + 1 + 1 + 1) place (p.Slash n at.unit) k.text parts.0.frames x (omega (arith, at.place_is)) fewer there
 
-pub waiting_refusal : (place at : ℕ) (x : State) (b : ℕ) (r : Refusal) → Standing (IsWaiting place) x → step lone at x b ≡ Err r → r ≡ e.Surrogate place
+pub waiting_refusal : (place at : ℕ) (x : ReaderState) (b : ℕ) (r : Refusal) → Standing (IsWaiting place) x → step lone at x b ≡ Err r → r ≡ e.Surrogate place
 waiting_refusal place at x b r k stepped = by_scan (scan true at k.part k.text b) refl (scan_waiting place at k.part k.text b k.holds)
   where
     here : step lone at (Stand k.inner k.part k.text x.frames) b ≡ Err r
-    here = ap (λ (s : State). step lone at s b) (sym k.is) ∙ stepped
+    here = ap (λ (s : ReaderState). step lone at s b) (sym k.is) ∙ stepped
 
     by_scan : (o : Scanned) → scan true at k.part k.text b ≡ o → Waiting place k.part k.text o → r ≡ e.Surrogate place
     by_scan _ is (waits part' h count) = absurd (goes_on_not k.inner at k.part part' k.text k.text x.frames b r is here)
@@ -168,11 +168,11 @@ last_is (k ∷ xs) (m ∷ ys) x y same =
     let others = last_is xs ys x y h.1 in
     (ap (λ (n : ℕ). n ∷ xs) h.0 ∙ ap (λ (zs : List ℕ). m ∷ zs) others.0, others.1)
 
-pub nothing_read : (at : ℕ) (x y : State) → run (step lone) [] at x ≡ Ok y → x ≡ y
+pub nothing_read : (at : ℕ) (x y : ReaderState) → run (step lone) [] at x ≡ Ok y → x ≡ y
 unfolding run
 nothing_read at x y is = ok_is x y is
 
-low_read : (place : ℕ) (before front : List ℕ) (b u : ℕ) (ds : List ℕ) (x : State) (r : Refusal) → IsUnit u ds → is_low u ≡ true → front ++ (b ∷ []) ≡ before ++ (92 ∷ (117 ∷ ds)) → length before ≡ place → InString before
+low_read : (place : ℕ) (before front : List ℕ) (b u : ℕ) (ds : List ℕ) (x : ReaderState) (r : Refusal) → IsUnit u ds → is_low u ≡ true → front ++ (b ∷ []) ≡ before ++ (92 ∷ (117 ∷ ds)) → length before ≡ place → InString before
     → run (step lone) front 0 start ≡ Ok x → step lone (length front) x b ≡ Err r → r ≡ e.Surrogate place
 low_read place before front b _ _ x r (digits a c d k x1 x2 x3 x4 h1 h2 h3 h4) lo cut is viable runs stepped =
     let last = last_is front (before ++ (92 ∷ (117 ∷ (x1 ∷ (x2 ∷ (x3 ∷ [])))))) b x4 (cut ∙ sym (append_assoc before (92 ∷ (117 ∷ (x1 ∷ (x2 ∷ (x3 ∷ []))))) (x4 ∷ []))) in
@@ -181,12 +181,12 @@ low_read place before front b _ _ x r (digits a c d k x1 x2 x3 x4 h1 h2 h3 h4) l
     let stands : parts.0 ≡ Stand s.inner p.Plain s.text parts.0.frames = s.is ∙ ap (λ (m : Part). Stand s.inner m s.text parts.0.frames) s.holds in
     let n : ℕ = 0 + length before in
     let here_is : 0 + length before ≡ place = omega (arith, is) in
-    let there = three_read s.inner n s.text parts.0.frames a c d x1 x2 x3 [] x h1 h2 h3 (ap (λ (m : State). run (step lone) (92 ∷ (117 ∷ (x1 ∷ (x2 ∷ (x3 ∷ []))))) n m) (sym stands) ∙ parts.2) in
+    let there = three_read s.inner n s.text parts.0.frames a c d x1 x2 x3 [] x h1 h2 h3 (ap (λ (m : ReaderState). run (step lone) (92 ∷ (117 ∷ (x1 ∷ (x2 ∷ (x3 ∷ []))))) n m) (sym stands) ∙ parts.2) in
     let reached : Stand s.inner (p.Hex n (q.Three a c d)) s.text parts.0.frames ≡ x = nothing_read (n + 1 + 1 + 1 + 1 + 1) (Stand s.inner (p.Hex n (q.Three a c d)) s.text parts.0.frames) x there in
     let here : step lone (length front) (Stand s.inner (p.Hex n (q.Three a c d)) s.text parts.0.frames) x4 ≡ Err r =
-    ap (λ (m : State). step lone (length front) m x4) reached ∙ (ap (λ (m : ℕ). step lone (length front) x m) (sym last.1) ∙ stepped) in
+    ap (λ (m : ReaderState). step lone (length front) m x4) reached ∙ (ap (λ (m : ℕ). step lone (length front) x m) (sym last.1) ∙ stepped) in
     refuses_by s.inner (length front) (p.Hex n (q.Three a c d)) s.text parts.0.frames x4 (e.Surrogate n) r (hex_scans (length front) n (q.Three a c d) s.text x4 k h4 ∙ low_scans n s.text (four_digits a c d k) lo) here
     ∙ ap (λ (m : ℕ). e.Surrogate m) here_is
 
-pub low_refusal : (place : ℕ) (front : List ℕ) (b : ℕ) (x : State) (r : Refusal) → LowAt place (front ++ (b ∷ [])) → run (step lone) front 0 start ≡ Ok x → step lone (length front) x b ≡ Err r → r ≡ e.Surrogate place
+pub low_refusal : (place : ℕ) (front : List ℕ) (b : ℕ) (x : ReaderState) (r : Refusal) → LowAt place (front ++ (b ∷ [])) → run (step lone) front 0 start ≡ Ok x → step lone (length front) x b ≡ Err r → r ≡ e.Surrogate place
 low_refusal place front b x r at runs stepped = low_read place at.before front b at.unit at.digits x r at.is_unit at.low at.parts at.place_is at.in_string runs stepped

@@ -4,17 +4,17 @@ use Rattle.std.specs.Prelude.{IfErr}
 use Rattle.std.proofs.lemmas.List.{take_at, take-append-drop, length-take-le}
 use Rattle.std.proofs.Math.Seq.{take-suc, drop-cons}
 use Rattle.json_value.specs.declared.tree.Json.{Json}
-use Rattle.json_read.specs.declared.refusal.Refusal.{Refusal}
-use Rattle.json_read.specs.declared.refusal.Refusal.TheVariants as e
+use Rattle.json_read.specs.Refusal.{Refusal}
+use Rattle.json_read.specs.Refusal as e
 use Rattle.json_value.specs.declared.fault.JsonFault.{JsonFault}
 use Rattle.json_value.specs.declared.fault.JsonFault.TheVariants as faults
-use Rattle.json_read.specs.declared.reader.Mode.{Mode}
-use Rattle.json_read.specs.declared.reader.Mode.TheVariants as m
+use Rattle.json_read.specs.Mode.{Mode}
+use Rattle.json_read.specs.Mode as m
 use Rattle.json_value.specs.Grammar.{Rules, strict, IsViable}
 use Rattle.json_read.specs.Faults.{lone, deeper, any_names, StopsAt, SequenceAt, HighAt, LowAt, NameAt, SurrogateAt, NoRule, MalformedAt, Explains}
 use Rattle.exact_read.specs.Steps.{run}
 use Rattle.json_read.specs.Numbers.{may_end}
-use Rattle.json_read.specs.Machine.{Frames, State, Outcome, step_by, step, start, finish, finish_by, number_end, placed, whole, read_of, Reads}
+use Rattle.json_read.specs.Machine.{Frames, ReaderState, Stepped, step_by, step, start, finish, finish_by, number_end, placed, whole, read_of, Reads}
 use Rattle.json_read.proofs.Frames.{Left}
 use Rattle.json_read.proofs.Laxer.{Laxer, lone_deeper, lone_any_names, run_agrees}
 use Rattle.json_read.proofs.Judged.{Fits, StillFits, Judged, GoesOn, step_by_judged, step_by_fits}
@@ -32,13 +32,13 @@ same_rules : Laxer lone lone
 same_rules = record { deeper = omega arith; names = λ x h. h; same_cut = refl }
 
 -- the state is valid, and within the depth
-abbrev Sure : State → Type 0
+abbrev Sure : ReaderState → Type 0
 Sure s = Valid s × Fits s.mode s.frames
 
-sure_goes : (at : ℕ) (s : State) (t : ℕ) (w : List ℕ) (v : Json) → Sure s → Left lone s (t ∷ w) v → (next : State) × (step lone at s t ≡ Ok next) × Left lone next w v
+sure_goes : (at : ℕ) (s : ReaderState) (t : ℕ) (w : List ℕ) (v : Json) → Sure s → Left lone s (t ∷ w) v → (next : ReaderState) × (step lone at s t ≡ Ok next) × Left lone next w v
 sure_goes at s t w v sure left = goes lone at s t w v sure.0 left
 
-sure_keeps : (at : ℕ) (s : State) (t : ℕ) (next : State) → Sure s → step lone at s t ≡ Ok next → Sure next
+sure_keeps : (at : ℕ) (s : ReaderState) (t : ℕ) (next : ReaderState) → Sure s → step lone at s t ≡ Ok next → Sure next
 unfolding step
 sure_keeps at s t next sure is = (keeps lone at s t next sure.0 is, subst StillFits is (step_by_fits at s.mode s.frames t sure.1))
 
@@ -60,7 +60,7 @@ module _ (bytes : List ℕ) (why : Refusal) (p : ℕ) (is : run (step lone) byte
 
   judged : Judged (λ r. step r p f.state f.token) (Err why)
   unfolding step
-  judged = subst (λ (o : Outcome). Judged (λ r. step_by r p f.state.mode f.state.frames f.token) o) f.stops (step_by_judged p f.state.mode f.state.frames f.token sure.1)
+  judged = subst (λ (o : Stepped). Judged (λ r. step_by r p f.state.mode f.state.frames f.token) o) f.stops (step_by_judged p f.state.mode f.state.frames f.token sure.1)
 
   next_front : List ℕ
   next_front = f.front ++ (f.token ∷ [])
@@ -133,7 +133,6 @@ module _ (bytes : List ℕ) (why : Refusal) (p : ℕ) (is : run (step lone) byte
   no_rule why' both not = record { depth = deeper_not why' both.0; names = names_not why' both.1; surrogates = λ place at. not place (surrogate_is place at) }
 
   pub explained : (why' : Refusal) → why ≡ why' → Explains bytes (placed why' p)
-  explained e.Memory same = tt
   explained e.Syntax same = (p, stops_here, no_rule e.Syntax (judged_as e.Syntax same) (λ place k. not_surrogate place (sym same ∙ k)), inr (refl, λ place at. not_malformed place (sym same ∙ sequence_is place at)))
     where
       not_surrogate : (place : ℕ) → e.Syntax ≡ e.Surrogate place → ⊥
@@ -157,7 +156,6 @@ module _ (bytes : List ℕ) (why : Refusal) (p : ℕ) (is : run (step lone) byte
   -- ---- and each explanation is that one
 
   deep_only : (why' : Refusal) → why ≡ why' → IsViable deeper (take (p + 1) bytes) → why' ≡ e.Deep
-  deep_only e.Memory same viable = absurd (judged_as e.Memory same)
   deep_only e.Syntax same viable = absurd (deeper_not e.Syntax (judged_as e.Syntax same).0 viable)
   deep_only e.Deep same viable = refl
   deep_only (e.Malformed place) same viable = absurd (deeper_not (e.Malformed place) (judged_as (e.Malformed place) same).0 viable)
@@ -165,7 +163,6 @@ module _ (bytes : List ℕ) (why : Refusal) (p : ℕ) (is : run (step lone) byte
   deep_only (e.Twice place) same viable = absurd (deeper_not (e.Twice place) (judged_as (e.Twice place) same).1 viable)
 
   twice_only : (place : ℕ) (why' : Refusal) → why ≡ why' → IsViable any_names (take (p + 1) bytes) → NameAt place (take (p + 1) bytes) → why' ≡ e.Twice place
-  twice_only place e.Memory same viable at = absurd (judged_as e.Memory same)
   twice_only place e.Syntax same viable at = absurd (names_not e.Syntax (judged_as e.Syntax same).1 viable)
   twice_only place e.Deep same viable at = absurd (names_not e.Deep (judged_as e.Deep same).1 viable)
   twice_only place (e.Malformed n) same viable at = absurd (names_not (e.Malformed n) (judged_as (e.Malformed n) same).1 viable)
@@ -173,7 +170,6 @@ module _ (bytes : List ℕ) (why : Refusal) (p : ℕ) (is : run (step lone) byte
   twice_only place (e.Twice n) same viable at = ap (λ (k : ℕ). e.Twice k) (twice_is place n same at)
 
   syntax_only : (q : ℕ) (why' : Refusal) → why ≡ why' → NoRule bytes p → MalformedAt bytes p q → faults.Syntax q ≡ placed why' p
-  syntax_only q e.Memory same free at = absurd (judged_as e.Memory same)
   syntax_only q e.Syntax same free (inl seq) = absurd (differs (sym same ∙ sequence_is q seq))
     where
       differs : e.Syntax ≡ e.Malformed q → ⊥
@@ -199,18 +195,18 @@ take_next bytes q lt =
     let same : q + 1 ≡ suc q = omega arith in
     ap (λ (n : ℕ). take n bytes) same ∙ take-suc bytes q 0 lt
 
-stops_run : (at : ℕ) (x : State) (b : ℕ) (rest : List ℕ) (why : Refusal) → step lone at x b ≡ Err why → run (step lone) (b ∷ rest) at x ≡ Err (why, at)
+stops_run : (at : ℕ) (x : ReaderState) (b : ℕ) (rest : List ℕ) (why : Refusal) → step lone at x b ≡ Err why → run (step lone) (b ∷ rest) at x ≡ Err (why, at)
 unfolding run
 stops_run at x b rest why is = rw is refl
 
-one_run : (at : ℕ) (x : State) (b : ℕ) (y : State) → step lone at x b ≡ Ok y → run (step lone) (b ∷ []) at x ≡ Ok y
+one_run : (at : ℕ) (x : ReaderState) (b : ℕ) (y : ReaderState) → step lone at x b ≡ Ok y → run (step lone) (b ∷ []) at x ≡ Ok y
 unfolding run
 one_run at x b y is = rw is refl
 
 refuses_at : (bytes : List ℕ) (q : ℕ) → StopsAt bytes q → (why : Refusal) × (run (step lone) bytes 0 start ≡ Err (why, q))
 refuses_at bytes q at = go (step lone q reached.0 (get_or bytes q 0)) refl
   where
-    reached : (s : State) × (run (step lone) (take q bytes) 0 start ≡ Ok s)
+    reached : (s : ReaderState) × (run (step lone) (take q bytes) 0 start ≡ Ok s)
     reached = viable_runs lone (take q bytes) at.before
 
     long : length (take q bytes) ≡ q
@@ -223,14 +219,14 @@ refuses_at bytes q at = go (step lone q reached.0 (get_or bytes q 0)) refl
     rest_of = ap (λ (k : List ℕ). run (step lone) k 0 start) whole_text ∙ (run_both (step lone) (take q bytes) (get_or bytes q 0 ∷ drop (suc q) bytes) 0 start reached.0 reached.1
         ∙ ap (λ (n : ℕ). run (step lone) (get_or bytes q 0 ∷ drop (suc q) bytes) n reached.0) (omega (arith, long)))
 
-    go : (o : Outcome) → step lone q reached.0 (get_or bytes q 0) ≡ o → (why : Refusal) × (run (step lone) bytes 0 start ≡ Err (why, q))
+    go : (o : Stepped) → step lone q reached.0 (get_or bytes q 0) ≡ o → (why : Refusal) × (run (step lone) bytes 0 start ≡ Err (why, q))
     go (Err why) stepped = (why, rest_of ∙ stops_run q reached.0 (get_or bytes q 0) (drop (suc q) bytes) why stepped)
     go (Ok next) stepped = absurd (at.here (subst (IsViable lone) (sym (take_next bytes q at.within))
         (after_viable lone (take q bytes) (get_or bytes q 0 ∷ []) reached.0 next refl reached.1 (one_run (length (take q bytes)) reached.0 (get_or bytes q 0) next (ap (λ (n : ℕ). step lone n reached.0 (get_or bytes q 0)) long ∙ stepped)))))
 
 -- what the reader finds
 abbrev Found : List ℕ → JsonFault → Type 0
-Found bytes x = ((x ≡ faults.Ended) × ((s : State) × (run (step lone) bytes 0 start ≡ Ok s))) ⊎ ((why : Refusal) × (q : ℕ) × (run (step lone) bytes 0 start ≡ Err (why, q)) × (x ≡ placed why q))
+Found bytes x = ((x ≡ faults.Ended) × ((s : ReaderState) × (run (step lone) bytes 0 start ≡ Ok s))) ⊎ ((why : Refusal) × (q : ℕ) × (run (step lone) bytes 0 start ≡ Err (why, q)) × (x ≡ placed why q))
 
 found : (bytes : List ℕ) (x : JsonFault) → (x ≡ faults.Memory → ⊥) → Explains bytes x → Found bytes x
 found bytes faults.Memory not h = absurd (not refl)
@@ -253,7 +249,7 @@ same_found bytes x y (inl (a, (s, is))) (inl (b, (s', is'))) = a ∙ sym b
 same_found bytes x y (inl (a, (s, is))) (inr (why, q, is', b)) = absurd (differ (sym is ∙ is'))
 same_found bytes x y (inr (why, q, is, a)) (inl (b, (s, is'))) = absurd (differ (sym is' ∙ is))
 same_found bytes x y (inr (why, q, is, a)) (inr (why', q', is', b)) =
-    let pair : (why, q) ≡ (why', q') = err_is {S = State} (why, q) (why', q') (sym is ∙ is') in
+    let pair : (why, q) ≡ (why', q') = err_is {S = ReaderState} (why, q) (why', q') (sym is ∙ is') in
     a ∙ (ap (λ (k : Refusal × ℕ). placed k.0 k.1) pair ∙ sym b)
 
 -- two explanations of a text are one
@@ -284,7 +280,7 @@ pub read_explains : (bytes : List ℕ) (x : JsonFault) → AreBytes bytes → re
 unfolding read_of finish
 read_explains bytes x are e = go (run (step strict) bytes 0 start) refl e
   where
-    go : (o : Result State (Refusal × ℕ)) → run (step strict) bytes 0 start ≡ o → whole o ≡ Err x → Explains bytes x
+    go : (o : Result ReaderState (Refusal × ℕ)) → run (step strict) bytes 0 start ≡ o → whole o ≡ Err x → Explains bytes x
     go (Ok s) is fails = subst (Explains bytes) (only_ended s.mode s.frames x fails) (runs_viable lone bytes s refl (sym (run_same bytes 0 start are) ∙ is), λ v t. differ (sym (read_only strict bytes v t) ∙ e))
     go (Err r) is fails = subst (Explains bytes) (err_is {S = Json} (placed r.0 r.1) x fails) (explained bytes r.0 r.1 (sym (run_same bytes 0 start are) ∙ is) r.0 refl)
 

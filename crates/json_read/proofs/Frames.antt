@@ -6,23 +6,23 @@ use Rattle.std.proofs.lemmas.List.{drop_all, append-nil}
 use Rattle.std.proofs.Math.Seq.{drop-cons}
 use Rattle.json_value.specs.declared.tree.Json.{Json}
 use Rattle.json_value.specs.declared.tree.Json.TheVariants as j
-use Rattle.json_read.specs.declared.refusal.Refusal.TheVariants as e
-use Rattle.json_read.specs.declared.reader.Word.{Word}
-use Rattle.json_read.specs.declared.reader.Word.TheVariants as w
-use Rattle.json_read.specs.declared.reader.Mode.{Mode}
-use Rattle.json_read.specs.declared.reader.Mode.TheVariants as m
-use Rattle.json_read.specs.declared.reader.Frame.{Frame}
-use Rattle.json_read.specs.declared.reader.Frame.TheVariants as f
+use Rattle.json_read.specs.Refusal as e
+use Rattle.json_read.specs.declared.words.Word.{Word}
+use Rattle.json_read.specs.declared.words.Word.TheVariants as w
+use Rattle.json_read.specs.Mode.{Mode}
+use Rattle.json_read.specs.Mode as m
+use Rattle.json_read.specs.Frame.{Frame}
+use Rattle.json_read.specs.Frame as f
 use Rattle.json_read.specs.declared.number.Digit.{Digit}
-use Rattle.json_read.specs.declared.string.Part.{Part}
-use Rattle.json_read.specs.declared.string.Part.TheVariants as p
-use Rattle.json_read.specs.declared.string.Progress.TheVariants as s
+use Rattle.json_read.specs.Part.{Part}
+use Rattle.json_read.specs.Part as p
+use Rattle.json_read.specs.Progress as s
 use Rattle.json_value.specs.Strings.{Chars}
 use Rattle.json_read.specs.Numbers.{number_start, number_next, may_end}
-use Rattle.json_read.specs.Left.{Completes, TextLeft}
+use Rattle.json_read.specs.Left.{CompletesNumber, TextLeft}
 use Rattle.json_value.specs.Grammar.{Rules, is_blank, IsSpace, has, Spells, null, yes, no, number, string, empty, list, bare, object, Rest, close, more, Pair, pair, Members, shut, another}
 use Rattle.json_read.specs.Scan.{Scanned, scan}
-use Rattle.json_read.specs.Machine.{Frames, Pairs, State, Outcome, to, letters, meant, pick, unless_blank, beginnings, number_by, open_by, begin, value_step, first_step, after_by, after_step, word_step, number_go, number_step, str_by, first_name_step, next_name_step, named, naming_by, colon_step, step_by}
+use Rattle.json_read.specs.Machine.{Frames, Pairs, ReaderState, Stepped, to, letters, meant, pick, unless_blank, beginnings, number_by, open_by, begin, value_step, first_step, after_by, after_step, word_step, number_go, number_step, str_by, first_name_step, next_name_step, named, naming_by, colon_step, step_by}
 use Rattle.json_read.proofs.Texts.{IsScanSound, scan_sound}
 use Rattle.json_read.proofs.NumberTexts.{reads_number}
 
@@ -32,7 +32,7 @@ room r fs = r.depth - length fs
 
 abbrev pub AfterLeft : Rules → Frames → Json → List ℕ → Json → Type 0
 AfterLeft r [] x w v = IsSpace w × (x ≡ v)
-AfterLeft r (f.List xs ∷ fs) x w v = (ys : List Json) × (a : List ℕ) × (b : List ℕ) × Rest r (room r (f.List xs ∷ fs)) ys a × (w ≡ a ++ b) × AfterLeft r fs (j.List (xs ++ (x ∷ ys))) b v
+AfterLeft r (f.Items xs ∷ fs) x w v = (ys : List Json) × (a : List ℕ) × (b : List ℕ) × Rest r (room r (f.Items xs ∷ fs)) ys a × (w ≡ a ++ b) × AfterLeft r fs (j.List (xs ++ (x ∷ ys))) b v
 AfterLeft r (f.Member ms n ∷ fs) x w v = (ys : Pairs) × (a : List ℕ) × (b : List ℕ) × Members r (room r (f.Member ms n ∷ fs)) (ms ++ ((n, x) ∷ [])) ys a × (w ≡ a ++ b)
     × AfterLeft r fs (j.Object (ms ++ ((n, x) ∷ ys))) b v
 
@@ -51,7 +51,7 @@ abbrev pub WordLeft : Rules → Frames → Json → List ℕ → List ℕ → Js
 WordLeft r fs x rest w v = (b : List ℕ) × (w ≡ rest ++ b) × AfterLeft r fs x b v
 
 abbrev pub NumberLeft : Rules → Frames → Digit → List ℕ → List ℕ → Json → Type 0
-NumberLeft r fs part text w v = (a : List ℕ) × (b : List ℕ) × Completes part a × (w ≡ a ++ b) × AfterLeft r fs (j.Number (text ++ a)) b v
+NumberLeft r fs part text w v = (a : List ℕ) × (b : List ℕ) × CompletesNumber part a × (w ≡ a ++ b) × AfterLeft r fs (j.Number (text ++ a)) b v
 
 abbrev pub StrLeft : Rules → Frames → Part → List ℕ → List ℕ → Json → Type 0
 StrLeft r fs part text w v = (a : List ℕ) × (b : List ℕ) × (t : List ℕ) × TextLeft r.cut part text a t × (w ≡ a ++ b) × AfterLeft r fs (j.Str t) b v
@@ -67,7 +67,7 @@ NameLeft r fs ms w v = (s : List ℕ) × (b : List ℕ) × IsSpace s × (w ≡ s
 
 abbrev pub LeftBy : Rules → Mode → Frames → List ℕ → Json → Type 0
 LeftBy r m.Value fs w v = ValueLeft r fs w v
-LeftBy r m.First fs w v = CloseLeft r fs 93 (j.List []) w v ⊎ ValueLeft r (f.List [] ∷ fs) w v
+LeftBy r m.First fs w v = CloseLeft r fs 93 (j.List []) w v ⊎ ValueLeft r (f.Items [] ∷ fs) w v
 LeftBy r (m.After x) fs w v = AfterLeft r fs x w v
 LeftBy r (m.Word word read) fs w v = WordLeft r fs (meant word) (drop read (letters word)) w v
 LeftBy r (m.Number part text) fs w v = NumberLeft r fs part text w v
@@ -77,12 +77,12 @@ LeftBy r (m.NextName ms) fs w v = NameLeft r fs ms w v
 LeftBy r (m.Naming ms place part text) fs w v = NamingLeft r fs ms part text w v
 LeftBy r (m.Colon ms n) fs w v = ColonLeft r fs ms n w v
 
-abbrev pub Left : Rules → State → List ℕ → Json → Type 0
+abbrev pub Left : Rules → ReaderState → List ℕ → Json → Type 0
 Left r s w v = LeftBy r s.mode s.frames w v
 
 -- ---- sound: what may follow the step may follow the byte
 
-abbrev pub IsSound : Rules → (List ℕ → Json → Type 0) → ℕ → Outcome → Type 0
+abbrev pub IsSound : Rules → (List ℕ → Json → Type 0) → ℕ → Stepped → Type 0
 IsSound r L t (Ok next) = (w : List ℕ) (v : Json) → Left r next w v → L (t ∷ w) v
 IsSound r L t (Err why) = Unit {0}
 
@@ -92,10 +92,10 @@ room_opens r fs x lt = omega arith
 open_list_sound : (r : Rules) (fs : Frames) (t : ℕ) → t ≡ 91 → IsSound r (BareLeft r fs) t (open_by r.depth m.First fs)
 unfolding open_by
 open_list_sound r fs t is = cond_both (nat_lt (length fs) r.depth) (to m.First fs) (Err e.Deep) (IsSound r (BareLeft r fs) t)
-    (λ lt. opened (room_opens r fs (f.List []) (ltb-true _ _ lt)))
+    (λ lt. opened (room_opens r fs (f.Items []) (ltb-true _ _ lt)))
     (λ _. tt)
   where
-    opened : room r fs ≡ suc (room r (f.List [] ∷ fs)) → (w : List ℕ) (v : Json) → LeftBy r m.First fs w v → BareLeft r fs (t ∷ w) v
+    opened : room r fs ≡ suc (room r (f.Items [] ∷ fs)) → (w : List ℕ) (v : Json) → LeftBy r m.First fs w v → BareLeft r fs (t ∷ w) v
     opened more_room w v (inl (s, b, blank, cut, left)) =
         (j.List [], 91 ∷ (s ++ (93 ∷ [])), b, rw more_room (empty s blank), rw (is, cut) (simp append_assoc), left)
     opened more_room w v (inr (s, x, a, b, blank, spelled, cut, (xs, c, d, rest, cut', left))) =
@@ -133,10 +133,10 @@ pair_left r fs ms w v (a, b, n, (t, chars, e), fresh, cut, (s, c, blank, cut', (
 open_object_sound : (r : Rules) (fs : Frames) (t : ℕ) → t ≡ 123 → IsSound r (BareLeft r fs) t (open_by r.depth m.FirstName fs)
 unfolding open_by
 open_object_sound r fs t is = cond_both (nat_lt (length fs) r.depth) (to m.FirstName fs) (Err e.Deep) (IsSound r (BareLeft r fs) t)
-    (λ lt. opened (room_opens r fs (f.List []) (ltb-true _ _ lt)))
+    (λ lt. opened (room_opens r fs (f.Items []) (ltb-true _ _ lt)))
     (λ _. tt)
   where
-    opened : room r fs ≡ suc (room r (f.List [] ∷ fs)) → (w : List ℕ) (v : Json) → LeftBy r m.FirstName fs w v → BareLeft r fs (t ∷ w) v
+    opened : room r fs ≡ suc (room r (f.Items [] ∷ fs)) → (w : List ℕ) (v : Json) → LeftBy r m.FirstName fs w v → BareLeft r fs (t ∷ w) v
     opened more_room w v (inl (s, b, blank, cut, left)) =
         (j.Object [], 123 ∷ (s ++ (125 ∷ [])), b, rw more_room (bare s blank), rw (is, cut) (simp append_assoc), left)
     opened more_room w v (inr (s, b, blank, cut, naming)) =
@@ -172,11 +172,11 @@ number_sound r fs t (Some part) is = λ w v left. go w v left
     )
 
 -- what a table owes
-abbrev AreSound : Rules → (List ℕ → Json → Type 0) → ℕ → List (ℕ × Outcome) → Type 0
+abbrev AreSound : Rules → (List ℕ → Json → Type 0) → ℕ → List (ℕ × Stepped) → Type 0
 AreSound r L t [] = Unit {0}
 AreSound r L t (x ∷ xs) = (t ≡ x.0 → IsSound r L t x.1) × AreSound r L t xs
 
-pick_sound : (r : Rules) (L : List ℕ → Json → Type 0) (t : ℕ) (xs : List (ℕ × Outcome)) (other : Outcome) → AreSound r L t xs → IsSound r L t other → IsSound r L t (pick t xs other)
+pick_sound : (r : Rules) (L : List ℕ → Json → Type 0) (t : ℕ) (xs : List (ℕ × Stepped)) (other : Stepped) → AreSound r L t xs → IsSound r L t other → IsSound r L t (pick t xs other)
 pick_sound r L t [] other all h = h
 pick_sound r L t (x ∷ xs) other all h = cond_both (t == x.0) x.1 (pick t xs other) (IsSound r L t) (λ k. all.0 (eqb-true _ _ k)) (λ _. pick_sound r L t xs other all.1 h)
 
@@ -190,11 +190,11 @@ begin_sound r fs t = pick_sound r (BareLeft r fs) t (beginnings r.depth fs) (num
 ValueLeft-bare : (r : Rules) (fs : Frames) (w : List ℕ) (v : Json) → BareLeft r fs w v → ValueLeft r fs w v
 ValueLeft-bare r fs w v (x, a, b, spelled, cut, left) = ([], x, a, b, tt, spelled, cut, left)
 
-weaken : (r : Rules) (L M : List ℕ → Json → Type 0) (t : ℕ) (o : Outcome) → ((w : List ℕ) (v : Json) → L w v → M w v) → IsSound r L t o → IsSound r M t o
+weaken : (r : Rules) (L M : List ℕ → Json → Type 0) (t : ℕ) (o : Stepped) → ((w : List ℕ) (v : Json) → L w v → M w v) → IsSound r L t o → IsSound r M t o
 weaken r L M t (Ok next) f h = λ w v left. f (t ∷ w) v (h w v left)
 weaken r L M t (Err why) f h = tt
 
-blank_sound : (r : Rules) (mode : Mode) (fs : Frames) (t : ℕ) (o : Outcome)
+blank_sound : (r : Rules) (mode : Mode) (fs : Frames) (t : ℕ) (o : Stepped)
     → (is_blank t ≡ true → (w : List ℕ) (v : Json) → LeftBy r mode fs w v → LeftBy r mode fs (t ∷ w) v) → IsSound r (LeftBy r mode fs) t o → IsSound r (LeftBy r mode fs) t (unless_blank t mode fs o)
 blank_sound r mode fs t o stays h = cond_both (is_blank t) (to mode fs) o (IsSound r (LeftBy r mode fs) t) stays (λ _. h)
 
@@ -212,7 +212,7 @@ blank_colon r fs ms n t is w v (s, b, blank, cut, left) = (t ∷ s, b, (is, blan
 
 blank_first : (r : Rules) (fs : Frames) (t : ℕ) → is_blank t ≡ true → (w : List ℕ) (v : Json) → LeftBy r m.First fs w v → LeftBy r m.First fs (t ∷ w) v
 blank_first r fs t is w v (inl h) = inl (blank_close r fs 93 (j.List []) t is w v h)
-blank_first r fs t is w v (inr h) = inr (blank_value r (f.List [] ∷ fs) t is w v h)
+blank_first r fs t is w v (inr h) = inr (blank_value r (f.Items [] ∷ fs) t is w v h)
 
 blank_first_name : (r : Rules) (fs : Frames) (t : ℕ) → is_blank t ≡ true → (w : List ℕ) (v : Json) → LeftBy r m.FirstName fs w v → LeftBy r m.FirstName fs (t ∷ w) v
 blank_first_name r fs t is w v (inl h) = inl (blank_close r fs 125 (j.Object []) t is w v h)
@@ -228,7 +228,7 @@ blank_members r d t is _ _ _ (another s s' n x a ms b blank blank' fresh paired 
 
 blank_after : (r : Rules) (fs : Frames) (x : Json) (t : ℕ) → is_blank t ≡ true → (w : List ℕ) (v : Json) → AfterLeft r fs x w v → AfterLeft r fs x (t ∷ w) v
 blank_after r [] x t is w v (blank, same) = ((is, blank), same)
-blank_after r (f.List xs ∷ fs) x t is w v (ys, a, b, rest, cut, left) = (ys, t ∷ a, b, blank_rest r _ t is ys a rest, ap (λ q. t ∷ q) cut, left)
+blank_after r (f.Items xs ∷ fs) x t is w v (ys, a, b, rest, cut, left) = (ys, t ∷ a, b, blank_rest r _ t is ys a rest, ap (λ q. t ∷ q) cut, left)
 blank_after r (f.Member ms n ∷ fs) x t is w v (ys, a, b, others, cut, left) = (ys, t ∷ a, b, blank_members r _ t is _ ys a others, ap (λ q. t ∷ q) cut, left)
 
 value_sound : (r : Rules) (fs : Frames) (t : ℕ) → IsSound r (ValueLeft r fs) t (value_step r.depth fs t)
@@ -237,11 +237,11 @@ value_sound r fs t = blank_sound r m.Value fs t (begin r.depth fs t) (blank_valu
 
 first_sound : (r : Rules) (fs : Frames) (t : ℕ) → IsSound r (LeftBy r m.First fs) t (first_step r.depth fs t)
 unfolding first_step
-first_sound r fs t = blank_sound r m.First fs t _ (blank_first r fs t) (cond_both (t == 93) (to (m.After (j.List [])) fs) (begin r.depth (f.List [] ∷ fs) t) (IsSound r (LeftBy r m.First fs) t)
+first_sound r fs t = blank_sound r m.First fs t _ (blank_first r fs t) (cond_both (t == 93) (to (m.After (j.List [])) fs) (begin r.depth (f.Items [] ∷ fs) t) (IsSound r (LeftBy r m.First fs) t)
     (λ h w v left. inl ([], w, tt, ap (λ (q : ℕ). q ∷ w) (eqb-true _ _ h), left))
-    (λ _. weaken r (BareLeft r (f.List [] ∷ fs)) (LeftBy r m.First fs) t (begin r.depth (f.List [] ∷ fs) t) (λ w v q. inr (ValueLeft-bare r (f.List [] ∷ fs) w v q)) (begin_sound r (f.List [] ∷ fs) t)))
+    (λ _. weaken r (BareLeft r (f.Items [] ∷ fs)) (LeftBy r m.First fs) t (begin r.depth (f.Items [] ∷ fs) t) (λ w v q. inr (ValueLeft-bare r (f.Items [] ∷ fs) w v q)) (begin_sound r (f.Items [] ∷ fs) t)))
 
-comma_item_sound : (r : Rules) (xs : List Json) (fs : Frames) (x : Json) (t : ℕ) → t ≡ 44 → (w : List ℕ) (v : Json) → ValueLeft r (f.List (xs ++ (x ∷ [])) ∷ fs) w v → AfterLeft r (f.List xs ∷ fs) x (t ∷ w) v
+comma_item_sound : (r : Rules) (xs : List Json) (fs : Frames) (x : Json) (t : ℕ) → t ≡ 44 → (w : List ℕ) (v : Json) → ValueLeft r (f.Items (xs ++ (x ∷ [])) ∷ fs) w v → AfterLeft r (f.Items xs ∷ fs) x (t ∷ w) v
 comma_item_sound r xs fs x t is w v (s, y, a, b, blank, spelled, cut, (ys, c, d, rest, cut', left)) = (
   y ∷ ys,
   44 ∷ (s ++ (a ++ c)),
@@ -264,7 +264,7 @@ comma_member_sound r ms n fs x t is w v (s, b, blank, cut, naming) =
 
 after_by_sound : (r : Rules) (fs : Frames) (x : Json) (t : ℕ) → IsSound r (AfterLeft r fs x) t (after_by fs x t)
 after_by_sound r [] x t = tt
-after_by_sound r (f.List xs ∷ fs) x t = pick_sound r (AfterLeft r (f.List xs ∷ fs) x) t ((44, to m.Value (f.List (xs ++ x ∷ []) ∷ fs)) ∷ ((93, to (m.After (j.List (xs ++ x ∷ []))) fs) ∷ [])) (Err e.Syntax)
+after_by_sound r (f.Items xs ∷ fs) x t = pick_sound r (AfterLeft r (f.Items xs ∷ fs) x) t ((44, to m.Value (f.Items (xs ++ x ∷ []) ∷ fs)) ∷ ((93, to (m.After (j.List (xs ++ x ∷ []))) fs) ∷ [])) (Err e.Syntax)
     (comma_item_sound r xs fs x t, ((λ is w v left. ([], 93 ∷ [], w, close [] tt, ap (λ (q : ℕ). q ∷ w) is, left)), tt)) tt
 after_by_sound r (f.Member ms n ∷ fs) x t = pick_sound r (AfterLeft r (f.Member ms n ∷ fs) x) t ((44, to (m.NextName (ms ++ (n, x) ∷ [])) fs) ∷ ((125, to (m.After (j.Object (ms ++ (n, x) ∷ []))) fs) ∷ [])) (Err e.Syntax)
     (comma_member_sound r ms n fs x t, ((λ is w v left. ([], 125 ∷ [], w, shut [] tt, ap (λ (q : ℕ). q ∷ w) is, left)), tt)) tt
@@ -291,7 +291,7 @@ word_step_sound r fs word read t =
     (λ ends. stops (and_parts _ _ h) (ltb-false _ _ ends)))
     (λ _. tt)
   where
-    matched : Outcome
+    matched : Stepped
     matched = cond (nat_lt (read + 1) (length (letters word))) (to (m.Word word (read + 1)) fs) (to (m.After (meant word)) fs)
 
     goes : Here word read t → (w : List ℕ) (v : Json) → ReadLeft r fs word (read + 1) w v → ReadLeft r fs word read (t ∷ w) v

@@ -4,22 +4,22 @@ use Rattle.std.specs.Prelude.{nat_lt, nat_le, ◌==◌, ◌&&◌, slice_index}
 use Rattle.std.proofs.lemmas.Bool.{cond_both, ne_eqb, lt-leb, and_right}
 use Rattle.json_value.specs.declared.tree.Json.{Json}
 use Rattle.json_value.specs.declared.tree.Json.TheVariants as j
-use Rattle.json_read.specs.declared.refusal.Refusal.{Refusal}
-use Rattle.json_read.specs.declared.refusal.Refusal.TheVariants as e
-use Rattle.json_read.specs.declared.reader.Word.{Word}
-use Rattle.json_read.specs.declared.reader.Word.TheVariants as w
-use Rattle.json_read.specs.declared.reader.Mode.{Mode}
-use Rattle.json_read.specs.declared.reader.Mode.TheVariants as m
-use Rattle.json_read.specs.declared.reader.Frame.TheVariants as f
+use Rattle.json_read.specs.Refusal.{Refusal}
+use Rattle.json_read.specs.Refusal as e
+use Rattle.json_read.specs.declared.words.Word.{Word}
+use Rattle.json_read.specs.declared.words.Word.TheVariants as w
+use Rattle.json_read.specs.Mode.{Mode}
+use Rattle.json_read.specs.Mode as m
+use Rattle.json_read.specs.Frame as f
 use Rattle.json_read.specs.declared.number.Digit.{Digit}
 use Rattle.json_read.specs.declared.number.Digit.TheVariants as d
-use Rattle.json_read.specs.declared.string.Part.{Part}
-use Rattle.json_read.specs.declared.string.Progress.TheVariants as s
+use Rattle.json_read.specs.Part.{Part}
+use Rattle.json_read.specs.Progress as s
 use Rattle.json_value.specs.Grammar.{is_blank}
 use Rattle.json_read.specs.Faults.{lone}
 use Rattle.json_read.specs.Numbers.{number_start, number_next, may_end}
 use Rattle.json_read.specs.Scan.{Scanned, scan}
-use Rattle.json_read.specs.Machine.{Frames, Pairs, State, Outcome, letters, begin, value_step, first_step, after_by, after_step, word_step, number_go, number_step, str_by, first_name_step, next_name_step, naming_by, colon_step, step_by, step}
+use Rattle.json_read.specs.Machine.{Frames, Pairs, ReaderState, Stepped, letters, begin, value_step, first_step, after_by, after_step, word_step, number_go, number_step, str_by, first_name_step, next_name_step, naming_by, colon_step, step_by, step}
 use Rattle.exact_read.proofs.Machines.{err}
 
 -- whose string is read
@@ -80,7 +80,7 @@ module _ (b : ℕ) (a : Alien b) where
 
   after_not : (fs : Frames) (x : Json) → after_by fs x b ≡ Err e.Syntax
   after_not [] x = refl
-  after_not (f.List xs ∷ fs) x = rw (a.differs 44 (omega arith) (λ h. omega arith), a.differs 93 (omega arith) (λ h. omega arith)) refl
+  after_not (f.Items xs ∷ fs) x = rw (a.differs 44 (omega arith) (λ h. omega arith), a.differs 93 (omega arith) (λ h. omega arith)) refl
   after_not (f.Member ms n ∷ fs) x = rw (a.differs 44 (omega arith) (λ h. omega arith), a.differs 125 (omega arith) (λ h. omega arith)) refl
 
   after_steps_not : (fs : Frames) (x : Json) → after_step fs x b ≡ Err e.Syntax
@@ -109,47 +109,47 @@ module _ (b : ℕ) (a : Alien b) where
       at w.False (suc (suc (suc (suc (suc n))))) = a.differs 0 (omega arith) (λ h. omega arith)
 
   -- such a byte is read in a string alone
-  pub in_string : (at : ℕ) (mode : Mode) (fs : Frames) (next : State) → step_by lone at mode fs b ≡ Ok next → InPart mode
+  pub in_string : (at : ℕ) (mode : Mode) (fs : Frames) (next : ReaderState) → step_by lone at mode fs b ≡ Ok next → InPart mode
   unfolding value_step first_step word_step number_step first_name_step next_name_step colon_step
   in_string at m.Value fs next is = absurd (refused (rw not_blank (begins_not 64 fs)) is)
     where
-      refused : {o : Outcome} → o ≡ Err e.Syntax → o ≡ Ok next → ⊥
+      refused : {o : Stepped} → o ≡ Err e.Syntax → o ≡ Ok next → ⊥
       refused a b = cc
-  in_string at m.First fs next is = absurd (refused (rw (not_blank, a.differs 93 (omega arith) (λ h. omega arith)) (begins_not 64 (f.List [] ∷ fs))) is)
+  in_string at m.First fs next is = absurd (refused (rw (not_blank, a.differs 93 (omega arith) (λ h. omega arith)) (begins_not 64 (f.Items [] ∷ fs))) is)
     where
-      refused : {o : Outcome} → o ≡ Err e.Syntax → o ≡ Ok next → ⊥
+      refused : {o : Stepped} → o ≡ Err e.Syntax → o ≡ Ok next → ⊥
       refused a b = cc
   in_string at (m.After x) fs next is = absurd (refused (after_steps_not fs x) is)
     where
-      refused : {o : Outcome} → o ≡ Err e.Syntax → o ≡ Ok next → ⊥
+      refused : {o : Stepped} → o ≡ Err e.Syntax → o ≡ Ok next → ⊥
       refused a b = cc
   in_string at (m.Word word read) fs next is = absurd (refused (rw (no_letter word read) refl) is)
     where
-      refused : {o : Outcome} → o ≡ Err e.Syntax → o ≡ Ok next → ⊥
+      refused : {o : Stepped} → o ≡ Err e.Syntax → o ≡ Ok next → ⊥
       refused a b = cc
   in_string at (m.Number part text) fs next is = absurd (refused (ap (number_go fs part text b) (next_none part) ∙ cond_both (may_end part) (after_step fs (j.Number text) b) (Err e.Syntax) (λ o. o ≡ Err e.Syntax) (λ _. after_steps_not fs (j.Number text)) (λ _. refl)) is)
     where
-      refused : {o : Outcome} → o ≡ Err e.Syntax → o ≡ Ok next → ⊥
+      refused : {o : Stepped} → o ≡ Err e.Syntax → o ≡ Ok next → ⊥
       refused a b = cc
   in_string at (m.Str part text) fs next is = record { inner = value; part = part; text = text; is = refl }
   in_string at m.FirstName fs next is = absurd (refused (rw (not_blank, a.differs 125 (omega arith) (λ h. omega arith), a.differs 34 (omega arith) (λ h. omega arith)) refl) is)
     where
-      refused : {o : Outcome} → o ≡ Err e.Syntax → o ≡ Ok next → ⊥
+      refused : {o : Stepped} → o ≡ Err e.Syntax → o ≡ Ok next → ⊥
       refused a b = cc
   in_string at (m.NextName ms) fs next is = absurd (refused (rw (not_blank, a.differs 34 (omega arith) (λ h. omega arith)) refl) is)
     where
-      refused : {o : Outcome} → o ≡ Err e.Syntax → o ≡ Ok next → ⊥
+      refused : {o : Stepped} → o ≡ Err e.Syntax → o ≡ Ok next → ⊥
       refused a b = cc
   in_string at (m.Naming ms place part text) fs next is = record { inner = name ms place; part = part; text = text; is = refl }
   in_string at (m.Colon ms n) fs next is = absurd (refused (rw (not_blank, a.differs 58 (omega arith) (λ h. omega arith)) refl) is)
     where
-      refused : {o : Outcome} → o ≡ Err e.Syntax → o ≡ Ok next → ⊥
+      refused : {o : Stepped} → o ≡ Err e.Syntax → o ≡ Ok next → ⊥
       refused a b = cc
 
 -- ---- in a string
 
 -- what a step in a string makes of its scan
-abbrev pub in_by : Inner → Frames → Scanned → Outcome
+abbrev pub in_by : Inner → Frames → Scanned → Stepped
 in_by value fs o = str_by fs o
 in_by (name ms place) fs o = naming_by true fs ms place o
 
@@ -165,10 +165,10 @@ pub refused_inside : (inner : Inner) (fs : Frames) (why : Refusal) → in_by inn
 refused_inside value fs why = refl
 refused_inside (name ms place) fs why = refl
 
-pub never : (why : Refusal) (inner : Inner) (fs : Frames) (o : Scanned) (next : State) → o ≡ Err why → in_by inner fs o ≡ Ok next → ⊥
+pub never : (why : Refusal) (inner : Inner) (fs : Frames) (o : Scanned) (next : ReaderState) → o ≡ Err why → in_by inner fs o ≡ Ok next → ⊥
 never why inner fs o next is ok = differ (sym (ap (in_by inner fs) is ∙ refused_inside inner fs why) ∙ ok)
   where
-    differ : err {S = State} why ≡ Ok next → ⊥
+    differ : err {S = ReaderState} why ≡ Ok next → ⊥
     differ e = cc
 
 pub step_inside : (inner : Inner) (at : ℕ) (part : Part) (text : List ℕ) (fs : Frames) (b : ℕ) → step lone at (record { mode = inside inner part text; frames = fs }) b ≡ in_by inner fs (scan true at part text b)

@@ -4,24 +4,24 @@ use Rattle.std.specs.Prelude.{nat_lt, ◌==◌, ◌&&◌, slice_index, encode_ut
 use Rattle.std.proofs.lemmas.Bool.{cond_both, ltb-true, lt-ltb}
 use Rattle.json_value.specs.declared.tree.Json.{Json}
 use Rattle.json_value.specs.declared.tree.Json.TheVariants as j
-use Rattle.json_read.specs.declared.refusal.Refusal.TheVariants as e
-use Rattle.json_read.specs.declared.reader.Word.TheVariants as w
-use Rattle.json_read.specs.declared.reader.Mode.{Mode}
-use Rattle.json_read.specs.declared.reader.Mode.TheVariants as m
-use Rattle.json_read.specs.declared.reader.Frame.TheVariants as f
+use Rattle.json_read.specs.Refusal as e
+use Rattle.json_read.specs.declared.words.Word.TheVariants as w
+use Rattle.json_read.specs.Mode.{Mode}
+use Rattle.json_read.specs.Mode as m
+use Rattle.json_read.specs.Frame as f
 use Rattle.json_read.specs.declared.number.Digit.{Digit}
-use Rattle.json_read.specs.declared.string.Part.{Part}
-use Rattle.json_read.specs.declared.string.Part.TheVariants as p
-use Rattle.json_read.specs.declared.string.Progress.TheVariants as s
+use Rattle.json_read.specs.Part.{Part}
+use Rattle.json_read.specs.Part as p
+use Rattle.json_read.specs.Progress as s
 use Rattle.json_read.specs.declared.string.Tail.{Tail}
-use Rattle.json_read.specs.declared.string.Quad.{Quad}
-use Rattle.json_read.specs.declared.string.Quad.TheVariants as q
+use Rattle.json_read.specs.Quad.{Quad}
+use Rattle.json_read.specs.Quad as q
 use Rattle.json_read.specs.Numbers.{number_start, number_next, may_end}
 use Rattle.json_value.specs.Grammar.{Rules, is_blank, has}
 use Rattle.json_read.specs.Faults.{lone, deeper, any_names}
 use Rattle.json_value.specs.Strings.{hex_digit, is_high, is_low, four_digits, is_plain, short, within}
 use Rattle.json_read.specs.Scan.{Scanned, lead, with, is_cut, wide_by, plain_scan, short_by, escape_scan, unit_scan, hex_by, hex_scan, slash_scan, letter_scan, may_be_low, pair_scan, low_by, low_scan, wide_scan, tail_low, tail_high, scan}
-use Rattle.json_read.specs.Machine.{Frames, Pairs, State, Outcome, to, letters, meant, pick, unless_blank, beginnings, number_by, open_by, begin, value_step, first_step, after_by, after_step, word_step, number_go, number_step, str_by, first_name_step, next_name_step, named, naming_by, colon_step, step_by}
+use Rattle.json_read.specs.Machine.{Frames, Pairs, ReaderState, Stepped, to, letters, meant, pick, unless_blank, beginnings, number_by, open_by, begin, value_step, first_step, after_by, after_step, word_step, number_go, number_step, str_by, first_name_step, next_name_step, named, naming_by, colon_step, step_by}
 
 -- ---- how deep each state may be
 
@@ -33,43 +33,40 @@ Fits (m.Naming ms place part text) fs = length fs < 64
 Fits (m.Colon ms n) fs = length fs < 64
 Fits _ fs = length fs ≤ 64
 
-abbrev pub StillFits : Outcome → Type 0
+abbrev pub StillFits : Stepped → Type 0
 StillFits (Ok next) = Fits next.mode next.frames
 StillFits (Err why) = Unit {0}
 
 -- ---- what each outcome says under laxer rules
 
-abbrev pub GoesOn : Outcome → Type 0
-GoesOn o = (next : State) × (o ≡ Ok next)
+abbrev pub GoesOn : Stepped → Type 0
+GoesOn o = (next : ReaderState) × (o ≡ Ok next)
 
-abbrev pub Judged : (Rules → Outcome) → Outcome → Type 0
+abbrev pub Judged : (Rules → Stepped) → Stepped → Type 0
 Judged by (Ok next) = Unit {0}
-Judged by (Err e.Memory) = ⊥
 Judged by (Err e.Deep) = GoesOn (by deeper) × (by any_names ≡ Err e.Deep)
 Judged by (Err (e.Twice place)) = GoesOn (by any_names) × (by deeper ≡ Err (e.Twice place))
 Judged by (Err why) = (by deeper ≡ Err why) × (by any_names ≡ Err why)
 
 -- an outcome that no rule decides
-abbrev pub Only : Outcome → Type 0
-Only (Err e.Memory) = ⊥
+abbrev pub Only : Stepped → Type 0
 Only (Err e.Deep) = ⊥
 Only (Err (e.Twice place)) = ⊥
 Only _ = Unit {0}
 
-only_judged : (o : Outcome) → Only o → Judged (λ r. o) o
+only_judged : (o : Stepped) → Only o → Judged (λ r. o) o
 only_judged (Ok next) h = tt
-only_judged (Err e.Memory) h = absurd h
 only_judged (Err e.Syntax) h = (refl, refl)
 only_judged (Err e.Deep) h = absurd h
 only_judged (Err (e.Malformed place)) h = (refl, refl)
 only_judged (Err (e.Surrogate place)) h = (refl, refl)
 only_judged (Err (e.Twice place)) h = absurd h
 
-branch : (t : Bool) (x y : Rules → Outcome) → Judged x (x lone) → Judged y (y lone) → Judged (λ r. cond t (x r) (y r)) (cond t (x lone) (y lone))
+branch : (t : Bool) (x y : Rules → Stepped) → Judged x (x lone) → Judged y (y lone) → Judged (λ r. cond t (x r) (y r)) (cond t (x lone) (y lone))
 branch true x y h k = h
 branch false x y h k = k
 
-only_branch : (t : Bool) (x y : Outcome) → Only x → Only y → Only (cond t x y)
+only_branch : (t : Bool) (x y : Stepped) → Only x → Only y → Only (cond t x y)
 only_branch t x y h k = cond_both t x y Only (λ _. h) (λ _. k)
 
 open_judged : (mode : Mode) (fs : Frames) → length fs ≤ 64 → Judged (λ r. open_by r.depth mode fs) (open_by 64 mode fs)
@@ -84,28 +81,28 @@ number_only : (fs : Frames) (t : ℕ) (o : Option Digit) → Only (number_by fs 
 number_only fs t None = tt
 number_only fs t (Some part) = tt
 
-abbrev AllOnly : List (ℕ × Outcome) → Type 0
+abbrev AllOnly : List (ℕ × Stepped) → Type 0
 AllOnly [] = Unit {0}
 AllOnly (x ∷ xs) = Only x.1 × AllOnly xs
 
-pick_only : (t : ℕ) (xs : List (ℕ × Outcome)) (other : Outcome) → AllOnly xs → Only other → Only (pick t xs other)
+pick_only : (t : ℕ) (xs : List (ℕ × Stepped)) (other : Stepped) → AllOnly xs → Only other → Only (pick t xs other)
 pick_only t [] other all h = h
 pick_only t (x ∷ xs) other all h = cond_both (t == x.0) x.1 (pick t xs other) Only (λ _. all.0) (λ _. pick_only t xs other all.1 h)
 
-abbrev others : Frames → List (ℕ × Outcome)
+abbrev others : Frames → List (ℕ × Stepped)
 others fs = (34, to (m.Str p.Plain []) fs) ∷ ((110, to (m.Word w.Null 1) fs) ∷ ((116, to (m.Word w.True 1) fs) ∷ ((102, to (m.Word w.False 1) fs) ∷ [])))
 
 begin_judged : (fs : Frames) (t : ℕ) → length fs ≤ 64 → Judged (λ r. begin r.depth fs t) (begin 64 fs t)
 unfolding begin
 begin_judged fs t le =
-    let rest : Outcome = pick t (others fs) (number_by fs t (number_start t)) in
+    let rest : Stepped = pick t (others fs) (number_by fs t (number_start t)) in
     branch (t == 91) (λ r. open_by r.depth m.First fs) (λ r. cond (t == 123) (open_by r.depth m.FirstName fs) rest) (open_judged m.First fs le)
     (branch (t == 123) (λ r. open_by r.depth m.FirstName fs) (λ r. rest) (open_judged m.FirstName fs le)
     (only_judged rest (pick_only t (others fs) (number_by fs t (number_start t)) (tt, (tt, (tt, (tt, tt)))) (number_only fs t (number_start t)))))
 
 after_by_only : (fs : Frames) (x : Json) (t : ℕ) → Only (after_by fs x t)
 after_by_only [] x t = tt
-after_by_only (f.List xs ∷ fs) x t = pick_only t ((44, to m.Value (f.List (xs ++ x ∷ []) ∷ fs)) ∷ ((93, to (m.After (j.List (xs ++ x ∷ []))) fs) ∷ [])) (Err e.Syntax) (tt, (tt, tt)) tt
+after_by_only (f.Items xs ∷ fs) x t = pick_only t ((44, to m.Value (f.Items (xs ++ x ∷ []) ∷ fs)) ∷ ((93, to (m.After (j.List (xs ++ x ∷ []))) fs) ∷ [])) (Err e.Syntax) (tt, (tt, tt)) tt
 after_by_only (f.Member ms n ∷ fs) x t = pick_only t ((44, to (m.NextName (ms ++ (n, x) ∷ [])) fs) ∷ ((125, to (m.After (j.Object (ms ++ (n, x) ∷ []))) fs) ∷ [])) (Err e.Syntax) (tt, (tt, tt)) tt
 
 after_only : (fs : Frames) (x : Json) (t : ℕ) → Only (after_step fs x t)
@@ -120,7 +117,6 @@ number_go_only fs part text t None = only_branch (may_end part) (after_step fs (
 
 -- a scan never refuses by a rule
 abbrev pub ScanOnly : Scanned → Type 0
-ScanOnly (Err e.Memory) = ⊥
 ScanOnly (Err e.Deep) = ⊥
 ScanOnly (Err (e.Twice place)) = ⊥
 ScanOnly _ = Unit {0}
@@ -168,7 +164,6 @@ scan_only at (p.Wide place tail) text b = scan_branch (within (tail_low tail) (t
 str_only : (fs : Frames) (o : Scanned) → ScanOnly o → Only (str_by fs o)
 str_only fs (Ok (s.Done text)) h = tt
 str_only fs (Ok (s.More part text)) h = tt
-str_only fs (Err e.Memory) h = absurd h
 str_only fs (Err e.Syntax) h = tt
 str_only fs (Err e.Deep) h = absurd h
 str_only fs (Err (e.Malformed place)) h = tt
@@ -183,7 +178,6 @@ naming_judged fs ms place (Ok (s.Done name)) h = by_test (has ms name) refl
     by_test false is = tt
     by_test true is = ((record { mode = m.Colon ms name; frames = fs }, refl), rw is refl)
 naming_judged fs ms place (Ok (s.More part text)) h = tt
-naming_judged fs ms place (Err e.Memory) h = absurd h
 naming_judged fs ms place (Err e.Syntax) h = (refl, refl)
 naming_judged fs ms place (Err e.Deep) h = absurd h
 naming_judged fs ms place (Err (e.Malformed at)) h = (refl, refl)
@@ -194,40 +188,40 @@ pub step_by_judged : (at : ℕ) (mode : Mode) (fs : Frames) (t : ℕ) → Fits m
 unfolding value_step first_step word_step number_step first_name_step next_name_step colon_step
 step_by_judged at m.Value fs t fits = branch (is_blank t) (λ r. to m.Value fs) (λ r. begin r.depth fs t) tt (begin_judged fs t fits)
 step_by_judged at m.First fs t fits =
-    branch (is_blank t) (λ r. to m.First fs) (λ r. cond (t == 93) (to (m.After (j.List [])) fs) (begin r.depth (f.List [] ∷ fs) t)) tt
-    (branch (t == 93) (λ r. to (m.After (j.List [])) fs) (λ r. begin r.depth (f.List [] ∷ fs) t) tt (begin_judged (f.List [] ∷ fs) t fits))
+    branch (is_blank t) (λ r. to m.First fs) (λ r. cond (t == 93) (to (m.After (j.List [])) fs) (begin r.depth (f.Items [] ∷ fs) t)) tt
+    (branch (t == 93) (λ r. to (m.After (j.List [])) fs) (λ r. begin r.depth (f.Items [] ∷ fs) t) tt (begin_judged (f.Items [] ∷ fs) t fits))
 step_by_judged at (m.After x) fs t fits = only_judged (after_step fs x t) (after_only fs x t)
 step_by_judged at (m.Word word read) fs t fits =
-    let matched : Outcome = cond (nat_lt (read + 1) (length (letters word))) (to (m.Word word (read + 1)) fs) (to (m.After (meant word)) fs) in
+    let matched : Stepped = cond (nat_lt (read + 1) (length (letters word))) (to (m.Word word (read + 1)) fs) (to (m.After (meant word)) fs) in
     let test : Bool = nat_lt read (length (letters word)) && t == slice_index (letters word) read in
     only_judged (cond test matched (Err e.Syntax)) (only_branch test matched (Err e.Syntax) (only_branch (nat_lt (read + 1) (length (letters word))) (to (m.Word word (read + 1)) fs) (to (m.After (meant word)) fs) tt tt) tt)
 step_by_judged at (m.Number part text) fs t fits = only_judged (number_go fs part text t (number_next part t)) (number_go_only fs part text t (number_next part t))
 step_by_judged at (m.Str part text) fs t fits = only_judged (str_by fs (scan true at part text t)) (str_only fs (scan true at part text t) (scan_only at part text t))
 step_by_judged at m.FirstName fs t fits =
-    let table : List (ℕ × Outcome) = (125, to (m.After (j.Object [])) fs) ∷ ((34, to (m.Naming [] at p.Plain []) fs) ∷ []) in
+    let table : List (ℕ × Stepped) = (125, to (m.After (j.Object [])) fs) ∷ ((34, to (m.Naming [] at p.Plain []) fs) ∷ []) in
     only_judged (unless_blank t m.FirstName fs (pick t table (Err e.Syntax))) (only_branch (is_blank t) (to m.FirstName fs) (pick t table (Err e.Syntax)) tt (pick_only t table (Err e.Syntax) (tt, (tt, tt)) tt))
 step_by_judged at (m.NextName ms) fs t fits =
-    let table : List (ℕ × Outcome) = (34, to (m.Naming ms at p.Plain []) fs) ∷ [] in
+    let table : List (ℕ × Stepped) = (34, to (m.Naming ms at p.Plain []) fs) ∷ [] in
     only_judged (unless_blank t (m.NextName ms) fs (pick t table (Err e.Syntax))) (only_branch (is_blank t) (to (m.NextName ms) fs) (pick t table (Err e.Syntax)) tt (pick_only t table (Err e.Syntax) (tt, tt) tt))
 step_by_judged at (m.Naming ms place part text) fs t fits = naming_judged fs ms place (scan true at part text t) (scan_only at part text t)
 step_by_judged at (m.Colon ms n) fs t fits =
-    let colon : Outcome = cond (t == 58) (to m.Value (f.Member ms n ∷ fs)) (Err e.Syntax) in
+    let colon : Stepped = cond (t == 58) (to m.Value (f.Member ms n ∷ fs)) (Err e.Syntax) in
     only_judged (unless_blank t (m.Colon ms n) fs colon) (only_branch (is_blank t) (to (m.Colon ms n) fs) colon tt (only_branch (t == 58) (to m.Value (f.Member ms n ∷ fs)) (Err e.Syntax) tt tt))
 
 -- ---- a step keeps within the depth
 
-fits_branch : (t : Bool) (x y : Outcome) → StillFits x → StillFits y → StillFits (cond t x y)
+fits_branch : (t : Bool) (x y : Stepped) → StillFits x → StillFits y → StillFits (cond t x y)
 fits_branch t x y h k = cond_both t x y StillFits (λ _. h) (λ _. k)
 
 open_fits : (mode : Mode) (fs : Frames) → (length fs < 64 → Fits mode fs) → StillFits (open_by 64 mode fs)
 unfolding open_by
 open_fits mode fs h = cond_both (nat_lt (length fs) 64) (to mode fs) (Err e.Deep) StillFits (λ lt. h (ltb-true (length fs) 64 lt)) (λ _. tt)
 
-abbrev AllFit : List (ℕ × Outcome) → Type 0
+abbrev AllFit : List (ℕ × Stepped) → Type 0
 AllFit [] = Unit {0}
 AllFit (x ∷ xs) = StillFits x.1 × AllFit xs
 
-pick_fits : (t : ℕ) (xs : List (ℕ × Outcome)) (other : Outcome) → AllFit xs → StillFits other → StillFits (pick t xs other)
+pick_fits : (t : ℕ) (xs : List (ℕ × Stepped)) (other : Stepped) → AllFit xs → StillFits other → StillFits (pick t xs other)
 pick_fits t [] other all h = h
 pick_fits t (x ∷ xs) other all h = cond_both (t == x.0) x.1 (pick t xs other) StillFits (λ _. all.0) (λ _. pick_fits t xs other all.1 h)
 
@@ -241,7 +235,7 @@ begin_fits fs t le = pick_fits t (beginnings 64 fs) (number_by fs t (number_star
 
 after_by_fits : (fs : Frames) (x : Json) (t : ℕ) → length fs ≤ 64 → StillFits (after_by fs x t)
 after_by_fits [] x t le = tt
-after_by_fits (f.List xs ∷ fs) x t le = pick_fits t ((44, to m.Value (f.List (xs ++ x ∷ []) ∷ fs)) ∷ ((93, to (m.After (j.List (xs ++ x ∷ []))) fs) ∷ [])) (Err e.Syntax) (le, (less fs le, tt)) tt
+after_by_fits (f.Items xs ∷ fs) x t le = pick_fits t ((44, to m.Value (f.Items (xs ++ x ∷ []) ∷ fs)) ∷ ((93, to (m.After (j.List (xs ++ x ∷ []))) fs) ∷ [])) (Err e.Syntax) (le, (less fs le, tt)) tt
   where
     less : (fs : Frames) → suc (length fs) ≤ 64 → length fs ≤ 64
     less fs h = omega arith
@@ -276,26 +270,26 @@ pub step_by_fits : (at : ℕ) (mode : Mode) (fs : Frames) (t : ℕ) → Fits mod
 unfolding value_step first_step word_step number_step first_name_step next_name_step colon_step
 step_by_fits at m.Value fs t fits = fits_branch (is_blank t) (to m.Value fs) (begin 64 fs t) fits (begin_fits fs t fits)
 step_by_fits at m.First fs t fits =
-    fits_branch (is_blank t) (to m.First fs) (cond (t == 93) (to (m.After (j.List [])) fs) (begin 64 (f.List [] ∷ fs) t)) fits
-    (fits_branch (t == 93) (to (m.After (j.List [])) fs) (begin 64 (f.List [] ∷ fs) t) (at_most fits) (begin_fits (f.List [] ∷ fs) t fits))
+    fits_branch (is_blank t) (to m.First fs) (cond (t == 93) (to (m.After (j.List [])) fs) (begin 64 (f.Items [] ∷ fs) t)) fits
+    (fits_branch (t == 93) (to (m.After (j.List [])) fs) (begin 64 (f.Items [] ∷ fs) t) (at_most fits) (begin_fits (f.Items [] ∷ fs) t fits))
   where
     at_most : length fs < 64 → length fs ≤ 64
     at_most h = omega arith
 step_by_fits at (m.After x) fs t fits = after_fits fs x t fits
 step_by_fits at (m.Word word read) fs t fits =
-    let matched : Outcome = cond (nat_lt (read + 1) (length (letters word))) (to (m.Word word (read + 1)) fs) (to (m.After (meant word)) fs) in
+    let matched : Stepped = cond (nat_lt (read + 1) (length (letters word))) (to (m.Word word (read + 1)) fs) (to (m.After (meant word)) fs) in
     let test : Bool = nat_lt read (length (letters word)) && t == slice_index (letters word) read in
     fits_branch test matched (Err e.Syntax) (fits_branch (nat_lt (read + 1) (length (letters word))) (to (m.Word word (read + 1)) fs) (to (m.After (meant word)) fs) fits fits) tt
 step_by_fits at (m.Number part text) fs t fits = number_go_fits fs part text t (number_next part t) fits
 step_by_fits at (m.Str part text) fs t fits = str_fits fs (scan true at part text t) fits
 step_by_fits at m.FirstName fs t fits =
-    let table : List (ℕ × Outcome) = (125, to (m.After (j.Object [])) fs) ∷ ((34, to (m.Naming [] at p.Plain []) fs) ∷ []) in
+    let table : List (ℕ × Stepped) = (125, to (m.After (j.Object [])) fs) ∷ ((34, to (m.Naming [] at p.Plain []) fs) ∷ []) in
     fits_branch (is_blank t) (to m.FirstName fs) (pick t table (Err e.Syntax)) fits (pick_fits t table (Err e.Syntax) (at_most fits, (fits, tt)) tt)
   where
     at_most : length fs < 64 → length fs ≤ 64
     at_most h = omega arith
 step_by_fits at (m.NextName ms) fs t fits =
-    let table : List (ℕ × Outcome) = (34, to (m.Naming ms at p.Plain []) fs) ∷ [] in
+    let table : List (ℕ × Stepped) = (34, to (m.Naming ms at p.Plain []) fs) ∷ [] in
     fits_branch (is_blank t) (to (m.NextName ms) fs) (pick t table (Err e.Syntax)) fits (pick_fits t table (Err e.Syntax) (fits, tt) tt)
 step_by_fits at (m.Naming ms place part text) fs t fits = naming_fits fs ms place (scan true at part text t) fits
 step_by_fits at (m.Colon ms n) fs t fits =

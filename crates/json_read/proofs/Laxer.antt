@@ -2,18 +2,18 @@
 use Rattle.std.proofs.Common.{◌≡◌, ℕ, ◌+◌, ◌<◌, ◌≤◌, Bool, true, false, cond, List, [], ◌∷◌, length, Result, Ok, Err, refl, ap, subst, ◌∙◌, arith}
 use Rattle.std.specs.Prelude.{nat_lt, ◌==◌, ◌&&◌}
 use Rattle.std.proofs.lemmas.Bool.{ltb-true, lt-ltb}
-use Rattle.json_read.specs.declared.refusal.Refusal.{Refusal}
-use Rattle.json_read.specs.declared.refusal.Refusal.TheVariants as e
-use Rattle.json_read.specs.declared.reader.Mode.{Mode}
-use Rattle.json_read.specs.declared.reader.Mode.TheVariants as m
-use Rattle.json_read.specs.declared.reader.Frame.TheVariants as f
-use Rattle.json_read.specs.declared.string.Part.{Part}
-use Rattle.json_read.specs.declared.string.Progress.TheVariants as s
+use Rattle.json_read.specs.Refusal.{Refusal}
+use Rattle.json_read.specs.Refusal as e
+use Rattle.json_read.specs.Mode.{Mode}
+use Rattle.json_read.specs.Mode as m
+use Rattle.json_read.specs.Frame as f
+use Rattle.json_read.specs.Part.{Part}
+use Rattle.json_read.specs.Progress as s
 use Rattle.json_value.specs.Grammar.{Rules, is_blank, has}
 use Rattle.json_read.specs.Scan.{Scanned, scan}
 use Rattle.json_read.specs.Faults.{lone, deeper, any_names}
 use Rattle.exact_read.specs.Steps.{run, on_step}
-use Rattle.json_read.specs.Machine.{Frames, Pairs, State, Outcome, to, open_by, begin, value_step, first_step, str_by, named, naming_by, step_by, step}
+use Rattle.json_read.specs.Machine.{Frames, Pairs, ReaderState, Stepped, to, open_by, begin, value_step, first_step, str_by, named, naming_by, step_by, step}
 
 -- the second rules allow whatever the first do
 pub record Laxer (a b : Rules) : Type 0 where
@@ -75,7 +75,7 @@ naming_agrees a b fs ms place (Err why) o' laxer h = tt
 step_by_agrees : (a b : Rules) (at : ℕ) (mode : Mode) (fs : Frames) (t : ℕ) → Laxer a b → Agrees (step_by a at mode fs t) (step_by b at mode fs t)
 unfolding value_step first_step
 step_by_agrees a b at m.Value fs t laxer = branches (is_blank t) _ _ _ (begin_agrees a.depth b.depth fs t laxer.deeper)
-step_by_agrees a b at m.First fs t laxer = branches (is_blank t) _ _ _ (branches (t == 93) _ _ _ (begin_agrees a.depth b.depth (f.List [] ∷ fs) t laxer.deeper))
+step_by_agrees a b at m.First fs t laxer = branches (is_blank t) _ _ _ (branches (t == 93) _ _ _ (begin_agrees a.depth b.depth (f.Items [] ∷ fs) t laxer.deeper))
 step_by_agrees a b at (m.After x) fs t laxer = same _
 step_by_agrees a b at (m.Word word read) fs t laxer = same _
 step_by_agrees a b at (m.Number part text) fs t laxer = same _
@@ -85,17 +85,17 @@ step_by_agrees a b at (m.NextName ms) fs t laxer = same _
 step_by_agrees a b at (m.Naming ms place part text) fs t laxer = naming_agrees a b fs ms place _ _ laxer (scan_agrees a.cut b.cut at part text t laxer.same_cut)
 step_by_agrees a b at (m.Colon ms n) fs t laxer = same _
 
-pub step_agrees : (a b : Rules) (at : ℕ) (x : State) (t : ℕ) → Laxer a b → Agrees (step a at x t) (step b at x t)
+pub step_agrees : (a b : Rules) (at : ℕ) (x : ReaderState) (t : ℕ) → Laxer a b → Agrees (step a at x t) (step b at x t)
 unfolding step
 step_agrees a b at x t laxer = step_by_agrees a b at x.mode x.frames t laxer
 
 -- laxer rules run as far
-pub run_agrees : (a b : Rules) → Laxer a b → (ts : List ℕ) (at : ℕ) (x y : State) → run (step a) ts at x ≡ Ok y → run (step b) ts at x ≡ Ok y
+pub run_agrees : (a b : Rules) → Laxer a b → (ts : List ℕ) (at : ℕ) (x y : ReaderState) → run (step a) ts at x ≡ Ok y → run (step b) ts at x ≡ Ok y
 unfolding run
 run_agrees a b laxer [] at x y is = is
 run_agrees a b laxer (t ∷ ts) at x y is = go (step a at x t) refl (step_agrees a b at x t laxer) (λ mid h. run_agrees a b laxer ts (at + 1) mid y h) is
   where
-    go : (o : Outcome) → step a at x t ≡ o → Agrees o (step b at x t) → ((mid : State) → run (step a) ts (at + 1) mid ≡ Ok y → run (step b) ts (at + 1) mid ≡ Ok y)
+    go : (o : Stepped) → step a at x t ≡ o → Agrees o (step b at x t) → ((mid : ReaderState) → run (step a) ts (at + 1) mid ≡ Ok y → run (step b) ts (at + 1) mid ≡ Ok y)
         → on_step (step a) at o (run (step a) ts (at + 1)) ≡ Ok y → on_step (step b) at (step b at x t) (run (step b) ts (at + 1)) ≡ Ok y
     go (Ok mid) same agrees tail is = rw agrees (tail mid is)
     go (Err why) same agrees tail is = absurd cc

@@ -1,4 +1,3 @@
-pub mod Runs
 pub mod Wides
 pub mod NumberTexts
 pub mod Texts
@@ -11,9 +10,11 @@ pub mod Whole
 pub mod Laxer
 pub mod Judged
 pub mod PlainRuns
-pub mod Held
-pub mod Taken
-pub mod Readings
+pub mod Steps
+pub mod Skips
+pub mod Tokens
+pub mod Strings
+pub mod Values
 pub mod Bytes
 pub mod Viable
 pub mod Inside

@@ -4,18 +4,18 @@ use Rattle.std.specs.Prelude.{nat_lt, ◌==◌, codes, slice_index}
 use Rattle.std.proofs.lemmas.Bool.{and_right}
 use Rattle.json_value.specs.declared.tree.Json.{Json}
 use Rattle.json_value.specs.declared.tree.Json.TheVariants as j
-use Rattle.json_read.specs.declared.refusal.Refusal.{Refusal}
-use Rattle.json_read.specs.declared.refusal.Refusal.TheVariants as e
-use Rattle.json_read.specs.declared.reader.Word.{Word}
-use Rattle.json_read.specs.declared.reader.Word.TheVariants as w
-use Rattle.json_read.specs.declared.reader.Mode.{Mode}
-use Rattle.json_read.specs.declared.reader.Mode.TheVariants as m
-use Rattle.json_read.specs.declared.reader.Frame.TheVariants as f
+use Rattle.json_read.specs.Refusal.{Refusal}
+use Rattle.json_read.specs.Refusal as e
+use Rattle.json_read.specs.declared.words.Word.{Word}
+use Rattle.json_read.specs.declared.words.Word.TheVariants as w
+use Rattle.json_read.specs.Mode.{Mode}
+use Rattle.json_read.specs.Mode as m
+use Rattle.json_read.specs.Frame as f
 use Rattle.json_read.specs.declared.number.Digit.{Digit}
 use Rattle.json_read.specs.declared.number.Digit.TheVariants as d
-use Rattle.json_read.specs.declared.string.Part.{Part}
-use Rattle.json_read.specs.declared.string.Part.TheVariants as p
-use Rattle.json_read.specs.declared.string.Progress.TheVariants as s
+use Rattle.json_read.specs.Part.{Part}
+use Rattle.json_read.specs.Part as p
+use Rattle.json_read.specs.Progress as s
 use Rattle.json_value.specs.Strings.{Chars}
 use Rattle.json_value.specs.Grammar.{Rules, has}
 use Rattle.json_read.specs.Faults.{lone, any_names, NameAt}
@@ -23,7 +23,7 @@ use Rattle.json_read.specs.Left.{TextLeft}
 use Rattle.json_read.specs.Numbers.{number_next, may_end}
 use Rattle.json_read.specs.Scan.{Scanned, scan, plain_scan, escape_scan, hex_scan, slash_scan, letter_scan, low_scan, wide_scan}
 use Rattle.exact_read.specs.Steps.{run}
-use Rattle.json_read.specs.Machine.{Frames, Pairs, State, Outcome, to, letters, begin, value_step, first_step, after_step, word_step, number_go, number_step, str_by, first_name_step, next_name_step, named, naming_by, colon_step, step_by, step, start}
+use Rattle.json_read.specs.Machine.{Frames, Pairs, ReaderState, Stepped, to, letters, begin, value_step, first_step, after_step, word_step, number_go, number_step, str_by, first_name_step, next_name_step, named, naming_by, colon_step, step_by, step, start}
 use Rattle.exact_read.proofs.Machines.{err, ok_is, err_is, differ}
 use Rattle.exact_read.proofs.Machines.{run_one, run_split}
 use Rattle.json_read.proofs.Viable.{runs_valid, viable_after}
@@ -43,34 +43,34 @@ Due _ = ⊥
 
 -- the four bytes that show it: a blank, two quotes and a colon
 abbrev Shows : Mode → Frames → Type 0
-Shows mode fs = (at : ℕ) × (a : State) × (b : State) × (c : State) × (z : State) × (step_by any_names at mode fs 32 ≡ Ok a) × (step any_names (at + 1) a 34 ≡ Ok b) × (step any_names (at + 1 + 1) b 34 ≡ Ok c) × (step any_names (at + 1 + 1 + 1) c 58 ≡ Ok z)
+Shows mode fs = (at : ℕ) × (a : ReaderState) × (b : ReaderState) × (c : ReaderState) × (z : ReaderState) × (step_by any_names at mode fs 32 ≡ Ok a) × (step any_names (at + 1) a 34 ≡ Ok b) × (step any_names (at + 1 + 1) b 34 ≡ Ok c) × (step any_names (at + 1 + 1 + 1) c 58 ≡ Ok z)
 
-refuses : (o : Outcome) (z : State) (why : Refusal) → o ≡ Err why → o ≡ Ok z → ⊥
+refuses : (o : Stepped) (z : ReaderState) (why : Refusal) → o ≡ Err why → o ≡ Ok z → ⊥
 refuses o z why is stepped = differ (sym stepped ∙ is)
 
 -- after a value no quote stands, and no colon
 after_quote : (fs : Frames) (x : Json) → after_step fs x 34 ≡ Err e.Syntax
 unfolding after_step
 after_quote [] x = refl
-after_quote (f.List xs ∷ fs) x = refl
+after_quote (f.Items xs ∷ fs) x = refl
 after_quote (f.Member ms n ∷ fs) x = refl
 
 after_colon : (fs : Frames) (x : Json) → after_step fs x 58 ≡ Err e.Syntax
 unfolding after_step
 after_colon [] x = refl
-after_colon (f.List xs ∷ fs) x = refl
+after_colon (f.Items xs ∷ fs) x = refl
 after_colon (f.Member ms n ∷ fs) x = refl
 
-step_to : (r : Rules) (at : ℕ) (mode next : Mode) (fs gs : Frames) (b : ℕ) (y : State) → step_by r at mode fs b ≡ to next gs → (x : State) → x ≡ record { mode = mode; frames = fs } → step r at x b ≡ Ok y → y ≡ record { mode = next; frames = gs }
+step_to : (r : Rules) (at : ℕ) (mode next : Mode) (fs gs : Frames) (b : ℕ) (y : ReaderState) → step_by r at mode fs b ≡ to next gs → (x : ReaderState) → x ≡ record { mode = mode; frames = fs } → step r at x b ≡ Ok y → y ≡ record { mode = next; frames = gs }
 unfolding step
-step_to r at mode next fs gs b y is x same stepped = ok_is y (record { mode = next; frames = gs }) (sym stepped ∙ (ap (λ (k : State). step_by r at k.mode k.frames b) same ∙ is))
+step_to r at mode next fs gs b y is x same stepped = ok_is y (record { mode = next; frames = gs }) (sym stepped ∙ (ap (λ (k : ReaderState). step_by r at k.mode k.frames b) same ∙ is))
 
-step_not : (r : Rules) (at : ℕ) (mode : Mode) (fs : Frames) (b : ℕ) (why : Refusal) (y : State) → step_by r at mode fs b ≡ Err why → (x : State) → x ≡ record { mode = mode; frames = fs } → step r at x b ≡ Ok y → ⊥
+step_not : (r : Rules) (at : ℕ) (mode : Mode) (fs : Frames) (b : ℕ) (why : Refusal) (y : ReaderState) → step_by r at mode fs b ≡ Err why → (x : ReaderState) → x ≡ record { mode = mode; frames = fs } → step r at x b ≡ Ok y → ⊥
 unfolding step
-step_not r at mode fs b why y is x same stepped = differ (sym stepped ∙ (ap (λ (k : State). step_by r at k.mode k.frames b) same ∙ is))
+step_not r at mode fs b why y is x same stepped = differ (sym stepped ∙ (ap (λ (k : ReaderState). step_by r at k.mode k.frames b) same ∙ is))
 
 -- a string that began as a value is no name
-string_not : (at : ℕ) (fs : Frames) (text : List ℕ) (b c z : State) → b ≡ record { mode = m.Str p.Plain text; frames = fs } → step any_names at b 34 ≡ Ok c → step any_names (at + 1) c 58 ≡ Ok z → ⊥
+string_not : (at : ℕ) (fs : Frames) (text : List ℕ) (b c z : ReaderState) → b ≡ record { mode = m.Str p.Plain text; frames = fs } → step any_names at b 34 ≡ Ok c → step any_names (at + 1) c 58 ≡ Ok z → ⊥
 unfolding scan plain_scan
 string_not at fs text b c z is two three =
     let over = step_to any_names at (m.Str p.Plain text) (m.After (j.Str text)) fs fs 34 c refl b is two in
@@ -128,13 +128,13 @@ unfolding scan plain_scan
 naming_blank at fs ms place text = refl
 
 -- a quote ends a string, and no second one follows it
-string_over : (at : ℕ) (fs : Frames) (text : List ℕ) (a b c : State) → a ≡ record { mode = m.Str p.Plain text; frames = fs } → step any_names at a 34 ≡ Ok b → step any_names (at + 1) b 34 ≡ Ok c → ⊥
+string_over : (at : ℕ) (fs : Frames) (text : List ℕ) (a b c : ReaderState) → a ≡ record { mode = m.Str p.Plain text; frames = fs } → step any_names at a 34 ≡ Ok b → step any_names (at + 1) b 34 ≡ Ok c → ⊥
 unfolding scan plain_scan
 string_over at fs text a b c is one two =
     let over = step_to any_names at (m.Str p.Plain text) (m.After (j.Str text)) fs fs 34 b refl a is one in
     step_not any_names (at + 1) (m.After (j.Str text)) fs 34 e.Syntax c (after_quote fs (j.Str text)) b over two
 
-naming_over : (at : ℕ) (fs : Frames) (ms : Pairs) (place : ℕ) (text : List ℕ) (a b c : State) → a ≡ record { mode = m.Naming ms place p.Plain text; frames = fs } → step any_names at a 34 ≡ Ok b → step any_names (at + 1) b 34 ≡ Ok c → ⊥
+naming_over : (at : ℕ) (fs : Frames) (ms : Pairs) (place : ℕ) (text : List ℕ) (a b c : ReaderState) → a ≡ record { mode = m.Naming ms place p.Plain text; frames = fs } → step any_names at a 34 ≡ Ok b → step any_names (at + 1) b 34 ≡ Ok c → ⊥
 unfolding scan plain_scan named colon_step
 naming_over at fs ms place text a b c is one two =
     let over = step_to any_names at (m.Naming ms place p.Plain text) (m.Colon ms text) fs fs 34 b refl a is one in
@@ -148,8 +148,8 @@ due m.Value fs valid (at, a, b, c, z, zero_, one, two, three) =
     absurd (string_not (at + 1 + 1) fs [] b c z second two three)
 due m.First fs valid (at, a, b, c, z, zero_, one, two, three) =
     let first : a ≡ record { mode = m.First; frames = fs } = ok_is a (record { mode = m.First; frames = fs }) (sym zero_) in
-    let second = step_to any_names (at + 1) m.First (m.Str p.Plain []) fs (f.List [] ∷ fs) 34 b refl a first one in
-    absurd (string_not (at + 1 + 1) (f.List [] ∷ fs) [] b c z second two three)
+    let second = step_to any_names (at + 1) m.First (m.Str p.Plain []) fs (f.Items [] ∷ fs) 34 b refl a first one in
+    absurd (string_not (at + 1 + 1) (f.Items [] ∷ fs) [] b c z second two three)
 due (m.After x) fs valid (at, a, b, c, z, zero_, one, two, three) =
     let first : a ≡ record { mode = m.After x; frames = fs } = ok_is a (record { mode = m.After x; frames = fs }) (sym zero_) in
     absurd (step_not any_names (at + 1) (m.After x) fs 34 e.Syntax b (after_quote fs x) a first one)
@@ -186,7 +186,7 @@ due (m.Colon ms n) fs valid (at, a, b, c, z, zero_, one, two, three) =
 -- ---- the name is read
 
 -- the reader stands in the name that began at the place
-pub record Naming (place : ℕ) (x : State) : Type 0 where
+pub record Naming (place : ℕ) (x : ReaderState) : Type 0 where
   pub members : Pairs
   pub part : Part
   pub text : List ℕ
@@ -200,9 +200,9 @@ no_end : (xs : List ℕ) (x : ℕ) → xs ++ (x ∷ []) ≡ [] → ⊥
 no_end [] x h = cc
 no_end (k ∷ xs) x h = cc
 
-stays_naming : (l : List ℕ) (last at place : ℕ) (ms : Pairs) (part : Part) (text f : List ℕ) (fs : Frames) (z : State) → IsPart part → TextLeft true part text (l ++ (last ∷ [])) f
+stays_naming : (l : List ℕ) (last at place : ℕ) (ms : Pairs) (part : Part) (text f : List ℕ) (fs : Frames) (z : ReaderState) → IsPart part → TextLeft true part text (l ++ (last ∷ [])) f
     → run (step lone) l at (record { mode = m.Naming ms place part text; frames = fs }) ≡ Ok z → Naming place z
-stays_naming [] last at place ms part text f fs z valid left runs = record { members = ms; part = part; text = text; is = ap (λ (k : State). k.mode) (sym (nothing_read at (record { mode = m.Naming ms place part text; frames = fs }) z runs)) }
+stays_naming [] last at place ms part text f fs z valid left runs = record { members = ms; part = part; text = text; is = ap (λ (k : ReaderState). k.mode) (sym (nothing_read at (record { mode = m.Naming ms place part text; frames = fs }) z runs)) }
 stays_naming (b ∷ l) last at place ms part text f fs z valid left runs =
     by_scan (scan_goes true at part text b (l ++ (last ∷ [])) f valid left) (λ part' text' h k r. stays_naming l last (at + 1) place ms part' text' f fs z h k r)
   where
@@ -211,11 +211,11 @@ stays_naming (b ∷ l) last at place ms part text f fs z valid left runs =
     by_scan (inl on) tail =
         let one = run_one (step lone) b l at (record { mode = m.Naming ms place part text; frames = fs }) z runs in
         let next = ok_is one.0 (record { mode = m.Naming ms place on.part on.text; frames = fs }) (sym one.1 ∙ naming_step at place ms part on.part text on.text fs b on.steps) in
-        tail on.part on.text on.valid on.left (ap (λ (k : State). run (step lone) l (at + 1) k) (sym next) ∙ one.2)
+        tail on.part on.text on.valid on.left (ap (λ (k : ReaderState). run (step lone) l (at + 1) k) (sym next) ∙ one.2)
     by_scan (inr over) tail = absurd (no_end l last over.nothing)
 
 -- the quote that begins it
-quote_read : (r : Rules) (at : ℕ) (mode : Mode) (fs : Frames) (y : State) → Due mode → step_by r at mode fs 34 ≡ Ok y → (ms : Pairs) × (y ≡ record { mode = m.Naming ms at p.Plain []; frames = fs })
+quote_read : (r : Rules) (at : ℕ) (mode : Mode) (fs : Frames) (y : ReaderState) → Due mode → step_by r at mode fs 34 ≡ Ok y → (ms : Pairs) × (y ≡ record { mode = m.Naming ms at p.Plain []; frames = fs })
 unfolding first_name_step next_name_step
 quote_read r at m.FirstName fs y is_due stepped = ([], ok_is y (record { mode = m.Naming [] at p.Plain []; frames = fs }) (sym stepped))
 quote_read r at (m.NextName ms) fs y is_due stepped = (ms, ok_is y (record { mode = m.Naming ms at p.Plain []; frames = fs }) (sym stepped))
@@ -234,7 +234,7 @@ last_of x (y ∷ ys) =
     let k = last_of y ys in
     (x ∷ k.0, k.1, ap (λ (q : List ℕ). x ∷ q) k.2)
 
-pub name_standing : (place : ℕ) (front : List ℕ) (b : ℕ) (x : State) → NameAt place (front ++ (b ∷ [])) → run (step lone) front 0 start ≡ Ok x → Naming place x
+pub name_standing : (place : ℕ) (front : List ℕ) (b : ℕ) (x : ReaderState) → NameAt place (front ++ (b ∷ [])) → run (step lone) front 0 start ≡ Ok x → Naming place x
 unfolding step
 name_standing place front b x at runs = by_spelled at.spelled refl
   where
@@ -256,7 +256,7 @@ name_standing place front b x at runs = by_spelled at.spelled refl
         let is_due = due parts.0.mode parts.0.frames (runs_valid lone at.before parts.0 parts.1) (n, a.0, c.0, d.0, g.0, a.1, c.1, d.1, g.1) in
         let quote = quote_read lone (0 + n) parts.0.mode parts.0.frames one.0 is_due one.1 in
         let whole : TextLeft true p.Plain [] (l.0 ++ (l.1 ∷ [])) at.name = (at.name, subst (λ (k : List ℕ). Chars true at.name k) ends at.is_name, refl) in
-        let there = stays_naming l.0 l.1 (0 + n + 1) (0 + n) quote.0 p.Plain [] at.name parts.0.frames x tt whole (ap (λ (k : State). run (step lone) l.0 (0 + n + 1) k) (sym quote.1) ∙ one.2) in
+        let there = stays_naming l.0 l.1 (0 + n + 1) (0 + n) quote.0 p.Plain [] at.name parts.0.frames x tt whole (ap (λ (k : ReaderState). run (step lone) l.0 (0 + n + 1) k) (sym quote.1) ∙ one.2) in
         subst (λ (k : ℕ). Naming k x) (omega (arith, at.place_is)) there
 
 named_twice : (fs : Frames) (ms : Pairs) (place : ℕ) (name : List ℕ) → has ms name ≡ true → naming_by true fs ms place (Ok (s.Done name)) ≡ Err (e.Twice place)
@@ -267,14 +267,14 @@ named_once : (fs : Frames) (ms : Pairs) (place : ℕ) (name : List ℕ) → has 
 unfolding named
 named_once fs ms place name is = rw is refl
 
-the_place : (n k : ℕ) → err {S = State} (e.Twice n) ≡ err (e.Twice k) → k ≡ n
+the_place : (n k : ℕ) → err {S = ReaderState} (e.Twice n) ≡ err (e.Twice k) → k ≡ n
 the_place n k same = cc
 
-not_twice : (why : Refusal) (k : ℕ) → (why ≡ e.Twice k → ⊥) → err {S = State} why ≡ err (e.Twice k) → ⊥
-not_twice why k not same = not (err_is {S = State} why (e.Twice k) same)
+not_twice : (why : Refusal) (k : ℕ) → (why ≡ e.Twice k → ⊥) → err {S = ReaderState} why ≡ err (e.Twice k) → ⊥
+not_twice why k not same = not (err_is {S = ReaderState} why (e.Twice k) same)
 
 -- a name that is there twice is refused at its place
-pub twice_refusal : (place at : ℕ) (x : State) (b place' : ℕ) → Naming place x → step lone at x b ≡ Err (e.Twice place') → place' ≡ place
+pub twice_refusal : (place at : ℕ) (x : ReaderState) (b place' : ℕ) → Naming place x → step lone at x b ≡ Err (e.Twice place') → place' ≡ place
 unfolding step
 twice_refusal place at x b place' k stepped = by_scan (scan true at k.part k.text b) (scan_only at k.part k.text b) (sym (ap (λ (m : Mode). step_by lone at m x.frames b) k.is) ∙ stepped)
   where
@@ -285,7 +285,6 @@ twice_refusal place at x b place' k stepped = by_scan (scan true at k.part k.tex
         by_test true is same = the_place place place' (sym (named_twice x.frames k.members place name is) ∙ same)
         by_test false is same = absurd (differ (sym (named_once x.frames k.members place name is) ∙ same))
     by_scan (Ok (s.More part text)) only same = absurd (differ same)
-    by_scan (Err e.Memory) only same = absurd only
     by_scan (Err e.Syntax) only same = absurd (not_twice e.Syntax place' (λ h. cc) same)
     by_scan (Err e.Deep) only same = absurd only
     by_scan (Err (e.Malformed n)) only same = absurd (not_twice (e.Malformed n) place' (λ h. cc) same)

@@ -6,7 +6,7 @@ use Rattle.std.proofs.lemmas.List.{append-nil}
 use Rattle.json_read.specs.declared.number.Digit.{Digit}
 use Rattle.json_read.specs.declared.number.Digit.TheVariants as d
 use Rattle.json_read.specs.Numbers.{number_start, number_next, may_end}
-use Rattle.json_read.specs.Left.{Completes}
+use Rattle.json_read.specs.Left.{CompletesNumber}
 use Rattle.json_value.specs.Numbers.{is_digit, is_digit_1_9, is_e, AreDigits, positive, minus, IsInt, zero, digits, IsFrac, no_frac, frac, IsExp, no_exp, exp, signed_exp, IsNumber, number}
 
 pub record ReadsNumber (a : List ℕ) : Type 0 where
@@ -15,7 +15,7 @@ pub record ReadsNumber (a : List ℕ) : Type 0 where
   pub part : Digit
   pub parts : a ≡ first ∷ others
   pub begins : number_start first ≡ Some part
-  pub completes : Completes part others
+  pub completes : CompletesNumber part others
 
 -- ---- what the grammar allows is read
 
@@ -32,7 +32,7 @@ fraction_stays b is = rw is refl
 exponent_stays : Stays d.Exponent
 exponent_stays b is = rw is refl
 
-digits_complete : (part : Digit) (bs rest : List ℕ) → Stays part → AreDigits bs → Completes part rest → Completes part (bs ++ rest)
+digits_complete : (part : Digit) (bs rest : List ℕ) → Stays part → AreDigits bs → CompletesNumber part rest → CompletesNumber part (bs ++ rest)
 digits_complete part [] rest stays are then = then
 digits_complete part (b ∷ bs) rest stays are then = (part, stays b are.0, digits_complete part bs rest stays are.1 then)
 
@@ -59,16 +59,16 @@ sign_at_e b is = elim (or_cases (b == 45) (b == 43) is) [ inl h ↦ minus_at b (
     plus_at : (b : ℕ) → b ≡ 43 → number_next d.E b ≡ Some d.Sign
     plus_at b h = rw h refl
 
-no_more : (part : Digit) (bs : List ℕ) → Completes part (bs ++ []) → Completes part bs
-no_more part bs h = subst (Completes part) (append-nil bs) h
+no_more : (part : Digit) (bs : List ℕ) → CompletesNumber part (bs ++ []) → CompletesNumber part bs
+no_more part bs h = subst (CompletesNumber part) (append-nil bs) h
 
-exp_completes : (part : Digit) (x : List ℕ) → may_end part ≡ true → ((b : ℕ) → is_e b ≡ true → number_next part b ≡ Some d.E) → IsExp x → Completes part x
+exp_completes : (part : Digit) (x : List ℕ) → may_end part ≡ true → ((b : ℕ) → is_e b ≡ true → number_next part b ≡ Some d.E) → IsExp x → CompletesNumber part x
 exp_completes part _ ends at no_exp = ends
 exp_completes part _ ends at (exp e b bs is_letter is are) = (d.E, at e is_letter, (d.Exponent, digit_at_e b is, no_more d.Exponent bs (digits_complete d.Exponent bs [] exponent_stays are refl)))
 exp_completes part _ ends at (signed_exp e sign b bs is_letter is_sign is are) =
     (d.E, at e is_letter, (d.Sign, sign_at_e sign is_sign, (d.Exponent, rw is refl, no_more d.Exponent bs (digits_complete d.Exponent bs [] exponent_stays are refl))))
 
-frac_completes : (part : Digit) (f x : List ℕ) → may_end part ≡ true → number_next part 46 ≡ Some d.Dot → ((b : ℕ) → is_e b ≡ true → number_next part b ≡ Some d.E) → IsFrac f → IsExp x → Completes part (f ++ x)
+frac_completes : (part : Digit) (f x : List ℕ) → may_end part ≡ true → number_next part 46 ≡ Some d.Dot → ((b : ℕ) → is_e b ≡ true → number_next part b ≡ Some d.E) → IsFrac f → IsExp x → CompletesNumber part (f ++ x)
 frac_completes part _ x ends dot at no_frac e = exp_completes part x ends at e
 frac_completes part _ x ends dot at (frac b bs is are) e =
     (d.Dot, dot, (d.Fraction, rw is refl, digits_complete d.Fraction bs x fraction_stays are (exp_completes d.Fraction x refl (λ b. at_e d.Fraction b refl refl) e)))
@@ -92,7 +92,7 @@ int_reads _ f x (digits b bs is are) fr e =
       completes = digits_complete d.Whole bs (f ++ x) whole_stays are (frac_completes d.Whole f x refl refl (λ b. at_e d.Whole b refl refl) fr e);
     }
 
-minus_reads : (i f x : List ℕ) → IsInt i → IsFrac f → IsExp x → Completes d.Minus (i ++ (f ++ x))
+minus_reads : (i f x : List ℕ) → IsInt i → IsFrac f → IsExp x → CompletesNumber d.Minus (i ++ (f ++ x))
 minus_reads _ f x zero fr e = (d.Zero, refl, frac_completes d.Zero f x refl refl (λ b. at_e d.Zero b refl refl) fr e)
 minus_reads _ f x (digits b bs is are) fr e =
     let k = digit_of_1_9 b is in
@@ -112,20 +112,20 @@ passed false x y o e = inr (refl, e)
 nothing : {A : Type 0} (y : A) → None ≡ Some y → ⊥
 nothing y e = cc
 
-after_exponent : (bs : List ℕ) → Completes d.Exponent bs → AreDigits bs
+after_exponent : (bs : List ℕ) → CompletesNumber d.Exponent bs → AreDigits bs
 after_exponent [] h = tt
 after_exponent (b ∷ bs) (next, is, rest) = go (λ h. after_exponent bs h) (passed (is_digit b) d.Exponent next None is)
   where
-    go : (Completes d.Exponent bs → AreDigits bs) → ((is_digit b ≡ true) × (d.Exponent ≡ next)) ⊎ ((is_digit b ≡ false) × (None ≡ Some next)) → AreDigits (b ∷ bs)
-    go others (inl (here, same)) = (here, others (subst (λ (k : Digit). Completes k bs) (sym same) rest))
+    go : (CompletesNumber d.Exponent bs → AreDigits bs) → ((is_digit b ≡ true) × (d.Exponent ≡ next)) ⊎ ((is_digit b ≡ false) × (None ≡ Some next)) → AreDigits (b ∷ bs)
+    go others (inl (here, same)) = (here, others (subst (λ (k : Digit). CompletesNumber k bs) (sym same) rest))
     go others (inr (there, e)) = absurd (nothing next e)
 
-after_sign : (e sign : ℕ) (bs : List ℕ) → is_e e ≡ true → (sign == 45 || sign == 43) ≡ true → Completes d.Sign bs → IsExp (e ∷ (sign ∷ bs))
+after_sign : (e sign : ℕ) (bs : List ℕ) → is_e e ≡ true → (sign == 45 || sign == 43) ≡ true → CompletesNumber d.Sign bs → IsExp (e ∷ (sign ∷ bs))
 after_sign e sign [] is_letter is_sign h = absurd cc
 after_sign e sign (b ∷ bs) is_letter is_sign (next, is, rest) = go (passed (is_digit b) d.Exponent next None is)
   where
     go : ((is_digit b ≡ true) × (d.Exponent ≡ next)) ⊎ ((is_digit b ≡ false) × (None ≡ Some next)) → IsExp (e ∷ (sign ∷ (b ∷ bs)))
-    go (inl (here, same)) = signed_exp e sign b bs is_letter is_sign here (after_exponent bs (subst (λ (k : Digit). Completes k bs) (sym same) rest))
+    go (inl (here, same)) = signed_exp e sign b bs is_letter is_sign here (after_exponent bs (subst (λ (k : Digit). CompletesNumber k bs) (sym same) rest))
     go (inr (there, e)) = absurd (nothing next e)
 
 other_way : (a b : Bool) → (a || b) ≡ true → (b || a) ≡ true
@@ -134,16 +134,16 @@ other_way true false e = refl
 other_way false true e = refl
 other_way false false e = e
 
-after_e : (e : ℕ) (bs : List ℕ) → is_e e ≡ true → Completes d.E bs → IsExp (e ∷ bs)
+after_e : (e : ℕ) (bs : List ℕ) → is_e e ≡ true → CompletesNumber d.E bs → IsExp (e ∷ bs)
 after_e e [] is_letter h = absurd cc
 after_e e (b ∷ bs) is_letter (next, is, rest) = go (passed (b == 43 || b == 45) d.Sign next (cond (is_digit b) (Some d.Exponent) None) is)
   where
     digit : ((is_digit b ≡ true) × (d.Exponent ≡ next)) ⊎ ((is_digit b ≡ false) × (None ≡ Some next)) → IsExp (e ∷ (b ∷ bs))
-    digit (inl (here, same)) = exp e b bs is_letter here (after_exponent bs (subst (λ (k : Digit). Completes k bs) (sym same) rest))
+    digit (inl (here, same)) = exp e b bs is_letter here (after_exponent bs (subst (λ (k : Digit). CompletesNumber k bs) (sym same) rest))
     digit (inr (there, e)) = absurd (nothing next e)
 
     go : (((b == 43 || b == 45) ≡ true) × (d.Sign ≡ next)) ⊎ (((b == 43 || b == 45) ≡ false) × (cond (is_digit b) (Some d.Exponent) None ≡ Some next)) → IsExp (e ∷ (b ∷ bs))
-    go (inl (here, same)) = after_sign e b bs is_letter (other_way (b == 43) (b == 45) here) (subst (λ (k : Digit). Completes k bs) (sym same) rest)
+    go (inl (here, same)) = after_sign e b bs is_letter (other_way (b == 43) (b == 45) here) (subst (λ (k : Digit). CompletesNumber k bs) (sym same) rest)
     go (inr (there, after)) = digit (passed (is_digit b) d.Exponent next None after)
 
 -- digits, and an exponent or nothing
@@ -157,16 +157,16 @@ record Fractional (bs : List ℕ) : Type 0 where
 one_more : (b : ℕ) (bs : List ℕ) → is_digit b ≡ true → Fractional bs → Fractional (b ∷ bs)
 one_more b bs is k = record { ds = b ∷ k.ds; x = k.x; parts = ap (λ (q : List ℕ). b ∷ q) k.parts; are = (is, k.are); exponent = k.exponent }
 
-after_fraction : (bs : List ℕ) → Completes d.Fraction bs → Fractional bs
+after_fraction : (bs : List ℕ) → CompletesNumber d.Fraction bs → Fractional bs
 after_fraction [] h = record { ds = []; x = []; parts = refl; are = tt; exponent = no_exp }
 after_fraction (b ∷ bs) (next, is, rest) = go (λ h. after_fraction bs h) (passed (is_digit b) d.Fraction next (cond (is_e b) (Some d.E) None) is)
   where
     letter : ((is_e b ≡ true) × (d.E ≡ next)) ⊎ ((is_e b ≡ false) × (None ≡ Some next)) → Fractional (b ∷ bs)
-    letter (inl (here, same)) = record { ds = []; x = b ∷ bs; parts = refl; are = tt; exponent = after_e b bs here (subst (λ (k : Digit). Completes k bs) (sym same) rest) }
+    letter (inl (here, same)) = record { ds = []; x = b ∷ bs; parts = refl; are = tt; exponent = after_e b bs here (subst (λ (k : Digit). CompletesNumber k bs) (sym same) rest) }
     letter (inr (there, e)) = absurd (nothing next e)
 
-    go : (Completes d.Fraction bs → Fractional bs) → ((is_digit b ≡ true) × (d.Fraction ≡ next)) ⊎ ((is_digit b ≡ false) × (cond (is_e b) (Some d.E) None ≡ Some next)) → Fractional (b ∷ bs)
-    go others (inl (here, same)) = one_more b bs here (others (subst (λ (k : Digit). Completes k bs) (sym same) rest))
+    go : (CompletesNumber d.Fraction bs → Fractional bs) → ((is_digit b ≡ true) × (d.Fraction ≡ next)) ⊎ ((is_digit b ≡ false) × (cond (is_e b) (Some d.E) None ≡ Some next)) → Fractional (b ∷ bs)
+    go others (inl (here, same)) = one_more b bs here (others (subst (λ (k : Digit). CompletesNumber k bs) (sym same) rest))
     go others (inr (there, after)) = letter (passed (is_e b) d.E next None after)
 
 -- a fraction or nothing, and an exponent or nothing
@@ -177,29 +177,29 @@ record Ending (bs : List ℕ) : Type 0 where
   fraction : IsFrac f
   exponent : IsExp x
 
-after_dot : (b : ℕ) (bs : List ℕ) → b ≡ 46 → Completes d.Dot bs → Ending (b ∷ bs)
+after_dot : (b : ℕ) (bs : List ℕ) → b ≡ 46 → CompletesNumber d.Dot bs → Ending (b ∷ bs)
 after_dot b [] dot h = absurd cc
 after_dot b (c ∷ bs) dot (next, is, rest) = go (passed (is_digit c) d.Fraction next None is)
   where
     go : ((is_digit c ≡ true) × (d.Fraction ≡ next)) ⊎ ((is_digit c ≡ false) × (None ≡ Some next)) → Ending (b ∷ (c ∷ bs))
     go (inl (here, same)) =
-        let k = after_fraction bs (subst (λ (k : Digit). Completes k bs) (sym same) rest) in
+        let k = after_fraction bs (subst (λ (k : Digit). CompletesNumber k bs) (sym same) rest) in
         record { f = 46 ∷ (c ∷ k.ds); x = k.x; parts = rw dot (ap (λ (q : List ℕ). 46 ∷ (c ∷ q)) k.parts); fraction = frac c k.ds here k.are; exponent = k.exponent }
     go (inr (there, e)) = absurd (nothing next e)
 
 -- after the digits before the point
-ending : (b : ℕ) (bs : List ℕ) (next : Digit) → Completes next bs → cond (b == 46) (Some d.Dot) (cond (is_e b) (Some d.E) None) ≡ Some next → Ending (b ∷ bs)
+ending : (b : ℕ) (bs : List ℕ) (next : Digit) → CompletesNumber next bs → cond (b == 46) (Some d.Dot) (cond (is_e b) (Some d.E) None) ≡ Some next → Ending (b ∷ bs)
 ending b bs next rest is = go (passed (b == 46) d.Dot next (cond (is_e b) (Some d.E) None) is)
   where
     letter : ((is_e b ≡ true) × (d.E ≡ next)) ⊎ ((is_e b ≡ false) × (None ≡ Some next)) → Ending (b ∷ bs)
-    letter (inl (here, same)) = record { f = []; x = b ∷ bs; parts = refl; fraction = no_frac; exponent = after_e b bs here (subst (λ (k : Digit). Completes k bs) (sym same) rest) }
+    letter (inl (here, same)) = record { f = []; x = b ∷ bs; parts = refl; fraction = no_frac; exponent = after_e b bs here (subst (λ (k : Digit). CompletesNumber k bs) (sym same) rest) }
     letter (inr (there, e)) = absurd (nothing next e)
 
     go : (((b == 46) ≡ true) × (d.Dot ≡ next)) ⊎ (((b == 46) ≡ false) × (cond (is_e b) (Some d.E) None ≡ Some next)) → Ending (b ∷ bs)
-    go (inl (here, same)) = after_dot b bs (eqb-true b 46 here) (subst (λ (k : Digit). Completes k bs) (sym same) rest)
+    go (inl (here, same)) = after_dot b bs (eqb-true b 46 here) (subst (λ (k : Digit). CompletesNumber k bs) (sym same) rest)
     go (inr (there, after)) = letter (passed (is_e b) d.E next None after)
 
-after_zero : (bs : List ℕ) → Completes d.Zero bs → Ending bs
+after_zero : (bs : List ℕ) → CompletesNumber d.Zero bs → Ending bs
 after_zero [] h = record { f = []; x = []; parts = refl; fraction = no_frac; exponent = no_exp }
 after_zero (b ∷ bs) (next, is, rest) = ending b bs next rest is
 
@@ -211,13 +211,13 @@ record Wholly (bs : List ℕ) : Type 0 where
   are : AreDigits ds
   ends : Ending others
 
-after_whole : (bs : List ℕ) → Completes d.Whole bs → Wholly bs
+after_whole : (bs : List ℕ) → CompletesNumber d.Whole bs → Wholly bs
 after_whole [] h = record { ds = []; others = []; parts = refl; are = tt; ends = record { f = []; x = []; parts = refl; fraction = no_frac; exponent = no_exp } }
 after_whole (b ∷ bs) (next, is, rest) = go (λ h. after_whole bs h) (passed (is_digit b) d.Whole next (cond (b == 46) (Some d.Dot) (cond (is_e b) (Some d.E) None)) is)
   where
-    go : (Completes d.Whole bs → Wholly bs) → ((is_digit b ≡ true) × (d.Whole ≡ next)) ⊎ ((is_digit b ≡ false) × (cond (b == 46) (Some d.Dot) (cond (is_e b) (Some d.E) None) ≡ Some next)) → Wholly (b ∷ bs)
+    go : (CompletesNumber d.Whole bs → Wholly bs) → ((is_digit b ≡ true) × (d.Whole ≡ next)) ⊎ ((is_digit b ≡ false) × (cond (b == 46) (Some d.Dot) (cond (is_e b) (Some d.E) None) ≡ Some next)) → Wholly (b ∷ bs)
     go others (inl (here, same)) =
-        let k = others (subst (λ (k : Digit). Completes k bs) (sym same) rest) in
+        let k = others (subst (λ (k : Digit). CompletesNumber k bs) (sym same) rest) in
         record { ds = b ∷ k.ds; others = k.others; parts = ap (λ (q : List ℕ). b ∷ q) k.parts; are = (here, k.are); ends = k.ends }
     go others (inr (there, after)) = record { ds = []; others = b ∷ bs; parts = refl; are = tt; ends = ending b bs next rest after }
 
@@ -231,7 +231,7 @@ record Unsigned (a : List ℕ) : Type 0 where
   fraction : IsFrac f
   exponent : IsExp x
 
-zero_first : (b : ℕ) (bs : List ℕ) → b ≡ 48 → Completes d.Zero bs → Unsigned (b ∷ bs)
+zero_first : (b : ℕ) (bs : List ℕ) → b ≡ 48 → CompletesNumber d.Zero bs → Unsigned (b ∷ bs)
 zero_first b bs is rest =
     let k = after_zero bs rest in
     record { i = 48 ∷ []; f = k.f; x = k.x; parts = rw is (ap (λ (q : List ℕ). 48 ∷ q) k.parts); int = zero; fraction = k.fraction; exponent = k.exponent }
@@ -245,22 +245,22 @@ above_zero b is other =
     differs : b ≡ 48 → ⊥
     differs same = absurd cc
 
-whole_first : (b : ℕ) (bs : List ℕ) → is_digit_1_9 b ≡ true → Completes d.Whole bs → Unsigned (b ∷ bs)
+whole_first : (b : ℕ) (bs : List ℕ) → is_digit_1_9 b ≡ true → CompletesNumber d.Whole bs → Unsigned (b ∷ bs)
 whole_first b bs is rest =
     let k = after_whole bs rest in
     let e = k.ends in
     record { i = b ∷ k.ds; f = e.f; x = e.x; parts = ap (λ (q : List ℕ). b ∷ q) (k.parts ∙ ap (λ (q : List ℕ). k.ds ++ q) e.parts); int = digits b k.ds is k.are; fraction = e.fraction; exponent = e.exponent }
 
-after_minus : (bs : List ℕ) → Completes d.Minus bs → Unsigned bs
+after_minus : (bs : List ℕ) → CompletesNumber d.Minus bs → Unsigned bs
 after_minus [] h = absurd cc
 after_minus (b ∷ bs) (next, is, rest) = go (passed (b == 48) d.Zero next (cond (is_digit b) (Some d.Whole) None) is)
   where
     digit : (b == 48) ≡ false → ((is_digit b ≡ true) × (d.Whole ≡ next)) ⊎ ((is_digit b ≡ false) × (None ≡ Some next)) → Unsigned (b ∷ bs)
-    digit other (inl (here, same)) = whole_first b bs (above_zero b here other) (subst (λ (k : Digit). Completes k bs) (sym same) rest)
+    digit other (inl (here, same)) = whole_first b bs (above_zero b here other) (subst (λ (k : Digit). CompletesNumber k bs) (sym same) rest)
     digit other (inr (there, e)) = absurd (nothing next e)
 
     go : (((b == 48) ≡ true) × (d.Zero ≡ next)) ⊎ (((b == 48) ≡ false) × (cond (is_digit b) (Some d.Whole) None ≡ Some next)) → Unsigned (b ∷ bs)
-    go (inl (here, same)) = zero_first b bs (eqb-true b 48 here) (subst (λ (k : Digit). Completes k bs) (sym same) rest)
+    go (inl (here, same)) = zero_first b bs (eqb-true b 48 here) (subst (λ (k : Digit). CompletesNumber k bs) (sym same) rest)
     go (inr (there, after)) = digit there (passed (is_digit b) d.Whole next None after)
 
 unsigned_is : (a : List ℕ) → Unsigned a → IsNumber a
@@ -269,17 +269,17 @@ unsigned_is a k = subst IsNumber (sym k.parts) (number [] k.i k.f k.x positive k
 signed_is : (a : List ℕ) → Unsigned a → IsNumber (45 ∷ a)
 signed_is a k = subst (λ (q : List ℕ). IsNumber (45 ∷ q)) (sym k.parts) (number (45 ∷ []) k.i k.f k.x minus k.int k.fraction k.exponent)
 
-pub reads_number : (b : ℕ) (bs : List ℕ) (part : Digit) → number_start b ≡ Some part → Completes part bs → IsNumber (b ∷ bs)
+pub reads_number : (b : ℕ) (bs : List ℕ) (part : Digit) → number_start b ≡ Some part → CompletesNumber part bs → IsNumber (b ∷ bs)
 reads_number b bs part is rest = go (passed (b == 45) d.Minus part (cond (b == 48) (Some d.Zero) (cond (is_digit b) (Some d.Whole) None)) is)
   where
     digit : (b == 48) ≡ false → ((is_digit b ≡ true) × (d.Whole ≡ part)) ⊎ ((is_digit b ≡ false) × (None ≡ Some part)) → IsNumber (b ∷ bs)
-    digit other (inl (here, same)) = unsigned_is (b ∷ bs) (whole_first b bs (above_zero b here other) (subst (λ (k : Digit). Completes k bs) (sym same) rest))
+    digit other (inl (here, same)) = unsigned_is (b ∷ bs) (whole_first b bs (above_zero b here other) (subst (λ (k : Digit). CompletesNumber k bs) (sym same) rest))
     digit other (inr (there, e)) = absurd (nothing part e)
 
     later : ((b == 48) ≡ true) × (d.Zero ≡ part) ⊎ (((b == 48) ≡ false) × (cond (is_digit b) (Some d.Whole) None ≡ Some part)) → IsNumber (b ∷ bs)
-    later (inl (here, same)) = unsigned_is (b ∷ bs) (zero_first b bs (eqb-true b 48 here) (subst (λ (k : Digit). Completes k bs) (sym same) rest))
+    later (inl (here, same)) = unsigned_is (b ∷ bs) (zero_first b bs (eqb-true b 48 here) (subst (λ (k : Digit). CompletesNumber k bs) (sym same) rest))
     later (inr (there, e)) = digit there (passed (is_digit b) d.Whole part None e)
 
     go : (((b == 45) ≡ true) × (d.Minus ≡ part)) ⊎ (((b == 45) ≡ false) × (cond (b == 48) (Some d.Zero) (cond (is_digit b) (Some d.Whole) None) ≡ Some part)) → IsNumber (b ∷ bs)
-    go (inl (here, same)) = subst (λ (k : ℕ). IsNumber (k ∷ bs)) (sym (eqb-true b 45 here)) (signed_is bs (after_minus bs (subst (λ (k : Digit). Completes k bs) (sym same) rest)))
+    go (inl (here, same)) = subst (λ (k : ℕ). IsNumber (k ∷ bs)) (sym (eqb-true b 45 here)) (signed_is bs (after_minus bs (subst (λ (k : Digit). CompletesNumber k bs) (sym same) rest)))
     go (inr (there, e)) = later (passed (b == 48) d.Zero part (cond (is_digit b) (Some d.Whole) None) e)

@@ -5,19 +5,19 @@ use Rattle.std.proofs.lemmas.Bool.{cond_both, eqb-true}
 use Rattle.std.proofs.lemmas.List.{append-nil}
 use Rattle.json_value.specs.declared.tree.Json.{Json}
 use Rattle.json_value.specs.declared.tree.Json.TheVariants as j
-use Rattle.json_read.specs.declared.refusal.Refusal.{Refusal}
-use Rattle.json_read.specs.declared.refusal.Refusal.TheVariants as e
-use Rattle.json_read.specs.declared.reader.Mode.{Mode}
-use Rattle.json_read.specs.declared.reader.Mode.TheVariants as m
-use Rattle.json_read.specs.declared.reader.Frame.TheVariants as f
+use Rattle.json_read.specs.Refusal.{Refusal}
+use Rattle.json_read.specs.Refusal as e
+use Rattle.json_read.specs.Mode.{Mode}
+use Rattle.json_read.specs.Mode as m
+use Rattle.json_read.specs.Frame as f
 use Rattle.json_read.specs.declared.number.Digit.{Digit}
-use Rattle.json_read.specs.declared.string.Part.{Part}
-use Rattle.json_read.specs.declared.string.Part.TheVariants as p
-use Rattle.json_read.specs.declared.string.Progress.TheVariants as s
+use Rattle.json_read.specs.Part.{Part}
+use Rattle.json_read.specs.Part as p
+use Rattle.json_read.specs.Progress as s
 use Rattle.json_read.specs.declared.string.Tail.{Tail}
 use Rattle.json_read.specs.declared.string.Tail.TheVariants as tails
-use Rattle.json_read.specs.declared.string.Quad.{Quad}
-use Rattle.json_read.specs.declared.string.Quad.TheVariants as q
+use Rattle.json_read.specs.Quad.{Quad}
+use Rattle.json_read.specs.Quad as q
 use Rattle.json_value.specs.Strings.{within, is_plain, short, hex_digit, is_high, is_low, four_digits, join, IsWide, IsUnit, digits, Chars}
 use Rattle.json_value.specs.Grammar.{Rules, is_blank, has}
 use Rattle.json_read.specs.Faults.{lone, any_names, InString, AtName, SequenceAt, HighAt, LowAt, NameAt}
@@ -25,7 +25,7 @@ use Rattle.json_read.specs.Left.{Tails, Digits, TextLeft}
 use Rattle.json_read.specs.Numbers.{number_start, number_next, may_end}
 use Rattle.json_read.specs.Scan.{Scanned, lead, with, wide_by, plain_scan, short_by, escape_scan, unit_scan, hex_by, is_cut, hex_scan, slash_scan, letter_scan, may_be_low, pair_scan, low_by, low_scan, wide_next, wide_scan, tail_low, tail_high, scan}
 use Rattle.exact_read.specs.Steps.{run, on_step}
-use Rattle.json_read.specs.Machine.{Frames, Pairs, State, Outcome, to, letters, meant, pick, beginnings, number_by, open_by, begin, value_step, first_step, after_by, after_step, word_step, number_go, number_step, str_by, first_name_step, next_name_step, named, naming_by, colon_step, step_by, step, start}
+use Rattle.json_read.specs.Machine.{Frames, Pairs, ReaderState, Stepped, to, letters, meant, pick, beginnings, number_by, open_by, begin, value_step, first_step, after_by, after_step, word_step, number_go, number_step, str_by, first_name_step, next_name_step, named, naming_by, colon_step, step_by, step, start}
 use Rattle.json_read.proofs.Texts.{IsScanSound, scan_sound}
 use Rattle.json_read.proofs.Wides.{one_tail, two_tails, three_tails, tails_wide}
 use Rattle.json_read.proofs.TextsEnd.{lowest}
@@ -283,21 +283,21 @@ ModeAt (m.Str part text) front = PartAt part front
 ModeAt (m.Naming ms place part text) front = PartAt part front × NameSoFar place part text front
 ModeAt _ front = Unit {0}
 
-abbrev pub OutcomeAt : List ℕ → ℕ → Outcome → Type 0
+abbrev pub OutcomeAt : List ℕ → ℕ → Stepped → Type 0
 OutcomeAt front b (Ok next) = ModeAt next.mode (front ++ (b ∷ []))
 OutcomeAt front b (Err (e.Malformed place)) = SequenceAt place front
 OutcomeAt front b (Err (e.Surrogate place)) = RefusedAt place front b
 OutcomeAt front b (Err (e.Twice place)) = NameAt place (front ++ (b ∷ []))
 OutcomeAt front b (Err why) = Unit {0}
 
-branch_at : (front : List ℕ) (b : ℕ) (t : Bool) (x y : Outcome) → (t ≡ true → OutcomeAt front b x) → OutcomeAt front b y → OutcomeAt front b (cond t x y)
+branch_at : (front : List ℕ) (b : ℕ) (t : Bool) (x y : Stepped) → (t ≡ true → OutcomeAt front b x) → OutcomeAt front b y → OutcomeAt front b (cond t x y)
 branch_at front b t x y h k = cond_both t x y (OutcomeAt front b) h (λ _. k)
 
-abbrev AllAt : List ℕ → ℕ → List (ℕ × Outcome) → Type 0
+abbrev AllAt : List ℕ → ℕ → List (ℕ × Stepped) → Type 0
 AllAt front b [] = Unit {0}
 AllAt front b (x ∷ xs) = (b ≡ x.0 → OutcomeAt front b x.1) × AllAt front b xs
 
-pick_at : (front : List ℕ) (b : ℕ) (xs : List (ℕ × Outcome)) (other : Outcome) → AllAt front b xs → OutcomeAt front b other → OutcomeAt front b (pick b xs other)
+pick_at : (front : List ℕ) (b : ℕ) (xs : List (ℕ × Stepped)) (other : Stepped) → AllAt front b xs → OutcomeAt front b other → OutcomeAt front b (pick b xs other)
 pick_at front b [] other all h = h
 pick_at front b (x ∷ xs) other all h = branch_at front b (b == x.0) x.1 (pick b xs other) (λ k. all.0 (eqb-true _ _ k)) (pick_at front b xs other all.1 h)
 
@@ -315,7 +315,7 @@ begin_at front d fs b = pick_at front b (beginnings d fs) (number_by fs b (numbe
 
 after_by_at : (front : List ℕ) (fs : Frames) (x : Json) (b : ℕ) → OutcomeAt front b (after_by fs x b)
 after_by_at front [] x b = tt
-after_by_at front (f.List xs ∷ fs) x b = pick_at front b ((44, to m.Value (f.List (xs ++ x ∷ []) ∷ fs)) ∷ ((93, to (m.After (j.List (xs ++ x ∷ []))) fs) ∷ [])) (Err e.Syntax) ((λ _. tt), ((λ _. tt), tt)) tt
+after_by_at front (f.Items xs ∷ fs) x b = pick_at front b ((44, to m.Value (f.Items (xs ++ x ∷ []) ∷ fs)) ∷ ((93, to (m.After (j.List (xs ++ x ∷ []))) fs) ∷ [])) (Err e.Syntax) ((λ _. tt), ((λ _. tt), tt)) tt
 after_by_at front (f.Member ms n ∷ fs) x b = pick_at front b ((44, to (m.NextName (ms ++ (n, x) ∷ [])) fs) ∷ ((125, to (m.After (j.Object (ms ++ (n, x) ∷ []))) fs) ∷ [])) (Err e.Syntax) ((λ _. tt), ((λ _. tt), tt)) tt
 
 after_at : (front : List ℕ) (fs : Frames) (x : Json) (b : ℕ) → OutcomeAt front b (after_step fs x b)
@@ -332,7 +332,6 @@ str_at front b fs (Ok (s.More part text)) h = h
 str_at front b fs (Err e.Syntax) h = tt
 str_at front b fs (Err (e.Malformed place)) h = h
 str_at front b fs (Err (e.Surrogate place)) h = h
-str_at front b fs (Err e.Memory) h = absurd h
 str_at front b fs (Err e.Deep) h = absurd h
 str_at front b fs (Err (e.Twice place)) h = absurd h
 
@@ -363,7 +362,6 @@ naming_at front b fs ms place part text (Ok (s.More part' text')) so sound h = (
 naming_at front b fs ms place part text (Err e.Syntax) so sound h = tt
 naming_at front b fs ms place part text (Err (e.Malformed at)) so sound h = h
 naming_at front b fs ms place part text (Err (e.Surrogate at)) so sound h = h
-naming_at front b fs ms place part text (Err e.Memory) so sound h = absurd h
 naming_at front b fs ms place part text (Err e.Deep) so sound h = absurd h
 naming_at front b fs ms place part text (Err (e.Twice at)) so sound h = absurd h
 
@@ -375,7 +373,7 @@ quote_at front at b ms fs is there same = (tt, record { before = front; read = [
 
 -- ---- what may follow a state
 
-single : (r : Rules) (b n : ℕ) (x y : State) → step r n x b ≡ Ok y → run (step r) (b ∷ []) n x ≡ Ok y
+single : (r : Rules) (b n : ℕ) (x y : ReaderState) → step r n x b ≡ Ok y → run (step r) (b ∷ []) n x ≡ Ok y
 unfolding run
 single r b n x y is = rw is refl
 
@@ -393,7 +391,7 @@ in_string_at inner front part text fs runs is = (
   after_viable lone front (92 ∷ []) x _ refl here (single lone 92 (length front) x _ (inner_slash inner (length front) text fs)),
 )
   where
-    x : State
+    x : ReaderState
     x = record { mode = inside inner p.Plain text; frames = fs }
 
     here : run (step lone) front 0 start ≡ Ok x
@@ -407,7 +405,7 @@ next_name_runs : (n : ℕ) (fs : Frames) (ms : Pairs) → run (step any_names) (
 unfolding run step next_name_step scan plain_scan named colon_step
 next_name_runs n fs ms = refl
 
-at_name_of : (front : List ℕ) (x z : State) → run (step lone) front 0 start ≡ Ok x → run (step any_names) (codes " \"\":") (length front) x ≡ Ok z → AtName front
+at_name_of : (front : List ℕ) (x z : ReaderState) → run (step lone) front 0 start ≡ Ok x → run (step any_names) (codes " \"\":") (length front) x ≡ Ok z → AtName front
 at_name_of front x z runs then = after_viable any_names front (codes " \"\":") x z refl (run_agrees lone any_names lone_any_names front 0 start x runs) then
 
 -- ---- one byte
@@ -416,21 +414,21 @@ step_by_at : (front : List ℕ) (at : ℕ) (mode : Mode) (fs : Frames) (b : ℕ)
 unfolding value_step first_step word_step number_step first_name_step next_name_step colon_step
 step_by_at front at m.Value fs b is valid runs here = branch_at front b (is_blank b) (to m.Value fs) (begin 64 fs b) (λ _. tt) (begin_at front 64 fs b)
 step_by_at front at m.First fs b is valid runs here =
-    branch_at front b (is_blank b) (to m.First fs) (cond (b == 93) (to (m.After (j.List [])) fs) (begin 64 (f.List [] ∷ fs) b)) (λ _. tt)
-    (branch_at front b (b == 93) (to (m.After (j.List [])) fs) (begin 64 (f.List [] ∷ fs) b) (λ _. tt) (begin_at front 64 (f.List [] ∷ fs) b))
+    branch_at front b (is_blank b) (to m.First fs) (cond (b == 93) (to (m.After (j.List [])) fs) (begin 64 (f.Items [] ∷ fs) b)) (λ _. tt)
+    (branch_at front b (b == 93) (to (m.After (j.List [])) fs) (begin 64 (f.Items [] ∷ fs) b) (λ _. tt) (begin_at front 64 (f.Items [] ∷ fs) b))
 step_by_at front at (m.After x) fs b is valid runs here = after_at front fs x b
 step_by_at front at (m.Word word read) fs b is valid runs here =
-    let matched : Outcome = cond (nat_lt (read + 1) (length (letters word))) (to (m.Word word (read + 1)) fs) (to (m.After (meant word)) fs) in
+    let matched : Stepped = cond (nat_lt (read + 1) (length (letters word))) (to (m.Word word (read + 1)) fs) (to (m.After (meant word)) fs) in
     let test : Bool = nat_lt read (length (letters word)) && b == slice_index (letters word) read in
     branch_at front b test matched (Err e.Syntax) (λ _. branch_at front b (nat_lt (read + 1) (length (letters word))) (to (m.Word word (read + 1)) fs) (to (m.After (meant word)) fs) (λ _. tt) tt) tt
 step_by_at front at (m.Number part text) fs b is valid runs here = number_go_at front fs part text b (number_next part b)
 step_by_at front at (m.Str part text) fs b is valid runs here = str_at front b fs (scan true at part text b) (scan_at front at part text b is (in_string_at value front part text fs runs) valid here)
 step_by_at front at m.FirstName fs b is valid runs here =
-    let table : List (ℕ × Outcome) = (125, to (m.After (j.Object [])) fs) ∷ ((34, to (m.Naming [] at p.Plain []) fs) ∷ []) in
+    let table : List (ℕ × Stepped) = (125, to (m.After (j.Object [])) fs) ∷ ((34, to (m.Naming [] at p.Plain []) fs) ∷ []) in
     branch_at front b (is_blank b) (to m.FirstName fs) (pick b table (Err e.Syntax)) (λ _. tt)
     (pick_at front b table (Err e.Syntax) ((λ _. tt), (quote_at front at b [] fs is (at_name_of front (record { mode = m.FirstName; frames = fs }) _ runs (first_name_runs (length front) fs)), tt)) tt)
 step_by_at front at (m.NextName ms) fs b is valid runs here =
-    let table : List (ℕ × Outcome) = (34, to (m.Naming ms at p.Plain []) fs) ∷ [] in
+    let table : List (ℕ × Stepped) = (34, to (m.Naming ms at p.Plain []) fs) ∷ [] in
     branch_at front b (is_blank b) (to (m.NextName ms) fs) (pick b table (Err e.Syntax)) (λ _. tt)
     (pick_at front b table (Err e.Syntax) (quote_at front at b ms fs is (at_name_of front (record { mode = m.NextName ms; frames = fs }) _ runs (next_name_runs (length front) fs ms)), tt) tt)
 step_by_at front at (m.Naming ms place part text) fs b is valid runs here =
@@ -438,27 +436,27 @@ step_by_at front at (m.Naming ms place part text) fs b is valid runs here =
 step_by_at front at (m.Colon ms n) fs b is valid runs here =
     branch_at front b (is_blank b) (to (m.Colon ms n) fs) (cond (b == 58) (to m.Value (f.Member ms n ∷ fs)) (Err e.Syntax)) (λ _. tt) (branch_at front b (b == 58) (to m.Value (f.Member ms n ∷ fs)) (Err e.Syntax) (λ _. tt) tt)
 
-step_at : (front : List ℕ) (x : State) (b : ℕ) → run (step lone) front 0 start ≡ Ok x → ModeAt x.mode front → OutcomeAt front b (step lone (length front) x b)
+step_at : (front : List ℕ) (x : ReaderState) (b : ℕ) → run (step lone) front 0 start ≡ Ok x → ModeAt x.mode front → OutcomeAt front b (step lone (length front) x b)
 unfolding step
 step_at front x b runs here = step_by_at front (length front) x.mode x.frames b refl (runs_valid lone front x runs) runs here
 
 -- a run to its end, with what stands there
-run_at : (ts done : List ℕ) (x y : State) → run (step lone) done 0 start ≡ Ok x → ModeAt x.mode done → run (step lone) ts (length done) x ≡ Ok y → ModeAt y.mode (done ++ ts)
+run_at : (ts done : List ℕ) (x y : ReaderState) → run (step lone) done 0 start ≡ Ok x → ModeAt x.mode done → run (step lone) ts (length done) x ≡ Ok y → ModeAt y.mode (done ++ ts)
 unfolding run
-run_at [] done x y so_far here e = subst (λ (k : List ℕ). ModeAt y.mode k) (sym (append-nil done)) (subst (λ (k : State). ModeAt k.mode done) (ok_is x y e) here)
+run_at [] done x y so_far here e = subst (λ (k : List ℕ). ModeAt y.mode k) (sym (append-nil done)) (subst (λ (k : ReaderState). ModeAt k.mode done) (ok_is x y e) here)
 run_at (t ∷ ts) done x y so_far here e = go (step lone (length done) x t) refl (step_at done x t so_far here) e (λ mid now there h. run_at ts (done ++ (t ∷ [])) mid y now there h)
   where
     next_is : length (done ++ (t ∷ [])) ≡ length done + 1
     next_is = length-append done (t ∷ [])
 
-    go : (o : Outcome) → step lone (length done) x t ≡ o → OutcomeAt done t o → on_step (step lone) (length done) o (run (step lone) ts (length done + 1)) ≡ Ok y
-        → ((mid : State) → run (step lone) (done ++ (t ∷ [])) 0 start ≡ Ok mid → ModeAt mid.mode (done ++ (t ∷ [])) → run (step lone) ts (length (done ++ (t ∷ []))) mid ≡ Ok y → ModeAt y.mode ((done ++ (t ∷ [])) ++ ts)) → ModeAt y.mode (done ++ (t ∷ ts))
+    go : (o : Stepped) → step lone (length done) x t ≡ o → OutcomeAt done t o → on_step (step lone) (length done) o (run (step lone) ts (length done + 1)) ≡ Ok y
+        → ((mid : ReaderState) → run (step lone) (done ++ (t ∷ [])) 0 start ≡ Ok mid → ModeAt mid.mode (done ++ (t ∷ [])) → run (step lone) ts (length (done ++ (t ∷ []))) mid ≡ Ok y → ModeAt y.mode ((done ++ (t ∷ [])) ++ ts)) → ModeAt y.mode (done ++ (t ∷ ts))
     go (Ok mid) same there e tail =
         subst (λ (k : List ℕ). ModeAt y.mode k) (append_assoc done (t ∷ []) ts)
         (tail mid (run_both (step lone) done (t ∷ []) 0 start x so_far ∙ (ap (λ (n : ℕ). run (step lone) (t ∷ []) n x) (omega arith) ∙ single lone t (length done) x mid same)) there (ap (λ (n : ℕ). run (step lone) ts n mid) next_is ∙ e))
     go (Err why) same there e tail = absurd cc
 
 -- what stands where the byte is refused
-pub refused_at : (front : List ℕ) (t : ℕ) (x : State) (why : Refusal) → run (step lone) front 0 start ≡ Ok x → step lone (length front) x t ≡ Err why → OutcomeAt front t (Err why)
+pub refused_at : (front : List ℕ) (t : ℕ) (x : ReaderState) (why : Refusal) → run (step lone) front 0 start ≡ Ok x → step lone (length front) x t ≡ Err why → OutcomeAt front t (Err why)
 unfolding run
 refused_at front t x why reaches stops = subst (OutcomeAt front t) stops (step_at front x t reaches (run_at front [] start x refl tt reaches))

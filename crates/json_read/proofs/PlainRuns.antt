@@ -1,29 +1,28 @@
 -- Characters that stand for themselves are taken at once.
-use Rattle.std.proofs.Common.{◌≡◌, ℕ, ◌+◌, ◌-◌, ◌≤◌, true, false, List, [], ◌∷◌, ◌++◌, length, take, drop, get_or, Some, Result, Ok, Err, refl, sym, ap, subst, ◌∙◌, arith, append_assoc, length-append}
+use Rattle.std.proofs.Common.{◌≡◌, ℕ, ◌+◌, ◌≤◌, true, false, List, [], ◌∷◌, ◌++◌, length, take, get_or, Some, Result, Ok, Err, refl, sym, ap, subst, ◌∙◌, arith, append_assoc, length-append}
 use Rattle.std.specs.Prelude.{◌==◌, nat_le}
-use Rattle.std.proofs.lemmas.List.{append-nil, length-drop}
-use Rattle.std.proofs.Math.Seq.{take-add, take-length}
+use Rattle.std.proofs.lemmas.List.{append-nil}
 use Rattle.std.proofs.lemmas.Bool.{and_parts, not-true, and_left, and_right, ne_eqb, lt-leb}
 use Rattle.json_value.specs.declared.tree.Json.TheVariants as j
-use Rattle.json_read.specs.declared.refusal.Refusal.{Refusal}
-use Rattle.json_read.specs.declared.reader.Mode.TheVariants as m
-use Rattle.json_read.specs.declared.string.Part.{Part}
-use Rattle.json_read.specs.declared.string.Part.TheVariants as p
-use Rattle.json_read.specs.declared.string.Progress.TheVariants as s
+use Rattle.json_read.specs.Refusal.{Refusal}
+use Rattle.json_read.specs.Mode as m
+use Rattle.json_read.specs.Part.{Part}
+use Rattle.json_read.specs.Part as p
+use Rattle.json_read.specs.Progress as s
 use Rattle.json_read.specs.declared.string.Tail.{Tail}
 use Rattle.json_read.specs.declared.string.Tail.TheVariants as tails
 use Rattle.json_value.specs.Strings.{within, is_plain, is_tail, IsWide}
 use Rattle.json_value.specs.Grammar.{strict}
-use Rattle.json_read.specs.Left.{OneByte, Ends, Tails}
+use Rattle.json_read.specs.Left.{OneByte, EndsValue, Tails}
 use Rattle.json_read.specs.Scan.{Scanned, scan, with, lead, tail_low, tail_high, wide_next, wide_scan, Unescaped, none, one, wide}
 use Rattle.exact_read.specs.Steps.{run, on_step}
-use Rattle.json_read.specs.Machine.{State, Frames, Pairs, step, str_by, named, naming_by}
-use Rattle.json_read.specs.Tokens.{Reading, Open, Closed, Failed, reading_by, reading}
+use Rattle.json_read.specs.Machine.{ReaderState, Frames, Pairs, step, str_by, named, naming_by}
+use Rattle.json_read.specs.Reading.{Reading, Open, Closed, Failed, reading_by, reading}
 use Rattle.json_read.proofs.Wides.{WideTails, wide_tails, tails_wide, one_tail, two_tails, three_tails}
 use Rattle.json_read.proofs.TextsGo.{plain_steps, wide_steps, lead_big}
 
 -- reading on in a string or a name goes as the machine runs
-unfoldable pub str_after : Frames → Reading → Result State (Refusal × ℕ)
+unfoldable pub str_after : Frames → Reading → Result ReaderState (Refusal × ℕ)
 str_after fs (Open part text) = Ok (record { mode = m.Str part text; frames = fs })
 str_after fs (Closed text rest at) = run (step strict) rest (at + 1) (record { mode = m.After (j.Str text); frames = fs })
 str_after fs (Failed why at) = Err (why, at)
@@ -38,7 +37,7 @@ str_run (b ∷ bs) at part text fs = by_scan (λ next more. str_run bs (at + 1) 
     by_scan tail (Ok (s.Done made)) = refl
     by_scan tail (Err why) = refl
 
-unfoldable pub name_after : Frames → Pairs → ℕ → Reading → Result State (Refusal × ℕ)
+unfoldable pub name_after : Frames → Pairs → ℕ → Reading → Result ReaderState (Refusal × ℕ)
 name_after fs ms place (Open part text) = Ok (record { mode = m.Naming ms place part text; frames = fs })
 name_after fs ms place (Closed name rest at) = on_step (step strict) at (named true fs ms place name) (run (step strict) rest (at + 1))
 name_after fs ms place (Failed why at) = Err (why, at)
@@ -60,7 +59,7 @@ unfolding reading
 one_scan b at w part text o is = ap (λ (k : Scanned). reading_by k at w (reading w (at + 1))) is
 
 -- a character of one byte
-plain_scans : (at : ℕ) (text : List ℕ) (b : ℕ) → is_plain b ≡ true → scan false at p.Plain text b ≡ with text (b ∷ [])
+pub plain_scans : (at : ℕ) (text : List ℕ) (b : ℕ) → is_plain b ≡ true → scan false at p.Plain text b ≡ with text (b ∷ [])
 unfolding scan
 plain_scans at text b is =
     let ps = and_parts (within 32 127 b) _ is in
@@ -68,13 +67,13 @@ plain_scans at text b is =
     plain_steps at text b (not-true (b == 34) qs.0) (not-true (b == 92) qs.1) is
 
 -- a character of several bytes
-lead_scans : (at : ℕ) (text : List ℕ) (b : ℕ) (tail : Tail) → lead b ≡ Some tail → scan false at p.Plain text b ≡ Ok (s.More (p.Wide at tail) (text ++ (b ∷ [])))
+pub lead_scans : (at : ℕ) (text : List ℕ) (b : ℕ) (tail : Tail) → lead b ≡ Some tail → scan false at p.Plain text b ≡ Ok (s.More (p.Wide at tail) (text ++ (b ∷ [])))
 unfolding scan
 lead_scans at text b tail is =
     let big : 194 ≤ b = lead_big b tail is in
     wide_steps at text b tail (ne_eqb b 34 (λ h. omega arith)) (ne_eqb b 92 (λ h. omega arith)) (and_left (within 32 127 b) _ (and_right (nat_le 32 b) (nat_le b 127) (lt-leb b 127 (omega arith)))) is
 
-wide_scans : (at place : ℕ) (tail : Tail) (text : List ℕ) (b : ℕ) → within (tail_low tail) (tail_high tail) b ≡ true → scan false at (p.Wide place tail) text b ≡ Ok (s.More (wide_next place tail) (text ++ (b ∷ [])))
+pub wide_scans : (at place : ℕ) (tail : Tail) (text : List ℕ) (b : ℕ) → within (tail_low tail) (tail_high tail) b ≡ true → scan false at (p.Wide place tail) text b ≡ Ok (s.More (wide_next place tail) (text ++ (b ∷ [])))
 unfolding scan wide_scan
 wide_scans at place tail text b is = rw is refl
 
@@ -87,7 +86,7 @@ byte_read tail K l u w at q place text is ts onward =
     ∙ (onward (text ++ (ts.byte ∷ [])) (omega (arith, is, ap length ts.made))
     ∙ ap (λ (k : List ℕ). reading l q p.Plain k) (append_assoc text (ts.byte ∷ []) ts.others ∙ ap (λ (k : List ℕ). text ++ k) (sym ts.made))))
 
-ends_read : (l others after : List ℕ) (at q : ℕ) (text : List ℕ) → q ≡ at + length others → Ends l others after → reading after at p.Plain text ≡ reading l q p.Plain (text ++ others)
+ends_read : (l others after : List ℕ) (at q : ℕ) (text : List ℕ) → q ≡ at + length others → EndsValue l others after → reading after at p.Plain text ≡ reading l q p.Plain (text ++ others)
 ends_read l others after at q text is (nothing, rest) =
     ap (λ (k : List ℕ). reading k at p.Plain text) rest
     ∙ (ap (λ (k : ℕ). reading l k p.Plain text) (let x : at ≡ q = omega (arith, is, ap length nothing) in x)
@@ -95,15 +94,15 @@ ends_read l others after at q text is (nothing, rest) =
 
 one_read : (low high : ℕ) (l u w : List ℕ) (at q place : ℕ) (text : List ℕ) → q ≡ at + length u → Tails (tails.One low high) l u w → reading w at (p.Wide place (tails.One low high)) text ≡ reading l q p.Plain (text ++ u)
 one_read low high l u w at q place text is ts =
-    byte_read (tails.One low high) (Ends l) l u w at q place text is ts (λ more here. ends_read l ts.others ts.after (at + 1) q more here ts.onward)
+    byte_read (tails.One low high) (EndsValue l) l u w at q place text is ts (λ more here. ends_read l ts.others ts.after (at + 1) q more here ts.onward)
 
 two_read : (low high : ℕ) (l u w : List ℕ) (at q place : ℕ) (text : List ℕ) → q ≡ at + length u → Tails (tails.Two low high) l u w → reading w at (p.Wide place (tails.Two low high)) text ≡ reading l q p.Plain (text ++ u)
 two_read low high l u w at q place text is ts =
-    byte_read (tails.Two low high) (OneByte 128 191 (Ends l)) l u w at q place text is ts (λ more here. one_read 128 191 l ts.others ts.after (at + 1) q place more here ts.onward)
+    byte_read (tails.Two low high) (OneByte 128 191 (EndsValue l)) l u w at q place text is ts (λ more here. one_read 128 191 l ts.others ts.after (at + 1) q place more here ts.onward)
 
 three_read : (low high : ℕ) (l u w : List ℕ) (at q place : ℕ) (text : List ℕ) → q ≡ at + length u → Tails (tails.Three low high) l u w → reading w at (p.Wide place (tails.Three low high)) text ≡ reading l q p.Plain (text ++ u)
 three_read low high l u w at q place text is ts =
-    byte_read (tails.Three low high) (OneByte 128 191 (OneByte 128 191 (Ends l))) l u w at q place text is ts (λ more here. two_read 128 191 l ts.others ts.after (at + 1) q place more here ts.onward)
+    byte_read (tails.Three low high) (OneByte 128 191 (OneByte 128 191 (EndsValue l))) l u w at q place text is ts (λ more here. two_read 128 191 l ts.others ts.after (at + 1) q place more here ts.onward)
 
 tails_read : (tail : Tail) (l u w : List ℕ) (at q place : ℕ) (text : List ℕ) → q ≡ at + length u → Tails tail l u w → reading w at (p.Wide place tail) text ≡ reading l q p.Plain (text ++ u)
 tails_read (tails.One low high) l u w at q place text is ts = one_read low high l u w at q place text is ts
@@ -128,35 +127,14 @@ unescaped_reading _ w at q text (wide c ts is_wide more) is =
     ∙ (wide_read c (ts ++ w) at text is_wide
     ∙ (unescaped_reading ts w (at + length c) q (text ++ c) more (omega (arith, is, length-append c ts)) ∙ ap (λ (k : List ℕ). reading w q p.Plain k) (append_assoc text c ts)))
 
-unescaped_open : (ts : List ℕ) (at : ℕ) (text : List ℕ) → Unescaped ts → reading ts at p.Plain text ≡ Open p.Plain (text ++ ts)
-unfolding reading
-unescaped_open ts at text all = ap (λ (k : List ℕ). reading k at p.Plain text) (sym (append-nil ts)) ∙ unescaped_reading ts [] at (at + length ts) text all refl
-
-pub plain_runs : (ts : List ℕ) (at : ℕ) (text : List ℕ) (fs : Frames) → Unescaped ts
-    → run (step strict) ts at (record { mode = m.Str p.Plain text; frames = fs }) ≡ Ok (record { mode = m.Str p.Plain (text ++ ts); frames = fs })
-unfolding str_after
-plain_runs ts at text fs all = str_run ts at p.Plain text fs ∙ ap (str_after fs) (unescaped_open ts at text all)
-
-pub naming_runs : (ts : List ℕ) (at : ℕ) (ms : Pairs) (place : ℕ) (text : List ℕ) (fs : Frames) → Unescaped ts
-    → run (step strict) ts at (record { mode = m.Naming ms place p.Plain text; frames = fs }) ≡ Ok (record { mode = m.Naming ms place p.Plain (text ++ ts); frames = fs })
-unfolding name_after
-naming_runs ts at ms place text fs all = name_run ts at ms place p.Plain text fs ∙ ap (name_after fs ms place) (unescaped_open ts at text all)
-
 -- scanning for such characters
 pub all_unescaped : (xs ys : List ℕ) → Unescaped xs → Unescaped ys → Unescaped (xs ++ ys)
 all_unescaped _ ys none more = more
 all_unescaped _ ys (one c xs is all) more = one c (xs ++ ys) is (all_unescaped xs ys all more)
 all_unescaped _ ys (wide c xs is all) more = subst Unescaped (sym (append_assoc c xs ys)) (wide c (xs ++ ys) is (all_unescaped xs ys all more))
 
-pub nothing_unescaped : Unescaped []
-nothing_unescaped = none
-
 alone : (c : List ℕ) → IsWide c → Unescaped c
 alone c is = subst Unescaped (append-nil c) (wide c [] is none)
-
-pub one_begun : (ws : List ℕ) → 1 ≤ length ws → is_plain (get_or ws 0 0) ≡ true → Unescaped (take 1 ws)
-one_begun [] le is = absurd (omega arith)
-one_begun (b ∷ bs) le is = one b [] is none
 
 pub two_begun : (a low high : ℕ) (ws : List ℕ) → 1 ≤ length ws → lead a ≡ Some (tails.One low high) → within low high (get_or ws 0 0) ≡ true → Unescaped (a ∷ take 1 ws)
 two_begun a low high [] le is hb = absurd (omega arith)
@@ -173,15 +151,3 @@ four_begun a low high (b ∷ []) le is hb hc hd = absurd (omega arith)
 four_begun a low high (b ∷ (c ∷ [])) le is hb hc hd = absurd (omega arith)
 four_begun a low high (b ∷ (c ∷ (d ∷ bs))) le is hb hc hd =
     alone (a ∷ (b ∷ (c ∷ (d ∷ [])))) (tails_wide a (tails.Three low high) (b ∷ (c ∷ (d ∷ []))) [] (b ∷ (c ∷ (d ∷ []))) is (three_tails low high b c d [] hb hc hd)).0
-
--- the slice from a place on
-pub rest_is : (n : ℕ) (bytes : List ℕ) → n ≤ length bytes → take (length bytes - n) (drop n bytes) ≡ drop n bytes
-rest_is n bytes le = ap (λ (q : ℕ). take q (drop n bytes)) (sym (length-drop n bytes)) ∙ take-length (drop n bytes)
-
-pub unescaped_more : (bytes : List ℕ) (i n : ℕ) → i ≤ length bytes → Unescaped (take i bytes) → n ≤ length (take (length bytes - i) (drop i bytes)) → Unescaped (take n (take (length bytes - i) (drop i bytes)))
-    → (i + n ≤ length bytes) × Unescaped (take (i + n) bytes)
-unescaped_more bytes i n le before within here =
-    let rest : take (length bytes - i) (drop i bytes) ≡ drop i bytes = rest_is i bytes le in (
-      omega (arith, within, ap length rest, length-drop i bytes),
-      subst Unescaped (sym (take-add i n bytes)) (all_unescaped (take i bytes) (take n (drop i bytes)) before (subst (λ (w : List ℕ). Unescaped (take n w)) rest here)),
-    )

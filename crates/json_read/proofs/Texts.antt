@@ -3,14 +3,14 @@ use Rattle.std.proofs.Common.{◌≡◌, ℕ, Bool, true, false, cond, List, [],
 use Rattle.std.specs.Prelude.{◌==◌, ◌&&◌, encode_utf8}
 use Rattle.std.proofs.lemmas.Bool.{cond_both, eqb-true, and_parts}
 use Rattle.std.proofs.lemmas.List.{append-nil}
-use Rattle.json_read.specs.declared.refusal.Refusal.TheVariants as e
-use Rattle.json_read.specs.declared.string.Part.{Part}
-use Rattle.json_read.specs.declared.string.Part.TheVariants as p
-use Rattle.json_read.specs.declared.string.Progress.TheVariants as s
+use Rattle.json_read.specs.Refusal as e
+use Rattle.json_read.specs.Part.{Part}
+use Rattle.json_read.specs.Part as p
+use Rattle.json_read.specs.Progress as s
 use Rattle.json_read.specs.declared.string.Tail.{Tail}
 use Rattle.json_read.specs.declared.string.Tail.TheVariants as tails
-use Rattle.json_read.specs.declared.string.Quad.{Quad}
-use Rattle.json_read.specs.declared.string.Quad.TheVariants as q
+use Rattle.json_read.specs.Quad.{Quad}
+use Rattle.json_read.specs.Quad as q
 use Rattle.json_value.specs.Strings.{within, is_plain, short, hex_digit, is_high, is_low, join, four_digits, IsUnit, digits, Chars, end, plain, wide, short_escape, escape, pair_escape, cut_escape}
 use Rattle.json_read.specs.Scan.{Scanned, lead, with, wide_by, plain_scan, short_by, escape_scan, unit_scan, hex_by, is_cut, hex_scan, may_be_low, pair_scan, low_by, low_scan, wide_scan, slash_scan, letter_scan, scan}
 use Rattle.json_read.specs.Left.{Digits, CutDigits, Unit_, alone, two, HexLeft, PartLeft, TextLeft}

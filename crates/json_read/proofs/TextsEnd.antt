@@ -2,14 +2,14 @@
 use Rattle.std.proofs.Common.{◌≡◌, ℕ, zero, suc, ◌<◌, ◌≤◌, Bool, true, false, cond, List, [], ◌∷◌, ◌++◌, length, Option, Some, None, Ok, Err, refl, sym, ap, ◌∙◌, arith, length-append, inl, inr}
 use Rattle.std.specs.Prelude.{◌==◌, ◌&&◌, encode_utf8, nat_le, nat_lt}
 use Rattle.std.proofs.lemmas.Bool.{cond_both, eqb-true, leb-true, le-leb, and_parts, and_from, ltb-true}
-use Rattle.json_read.specs.declared.refusal.Refusal.TheVariants as e
-use Rattle.json_read.specs.declared.string.Part.{Part}
-use Rattle.json_read.specs.declared.string.Part.TheVariants as p
-use Rattle.json_read.specs.declared.string.Progress.TheVariants as s
+use Rattle.json_read.specs.Refusal as e
+use Rattle.json_read.specs.Part.{Part}
+use Rattle.json_read.specs.Part as p
+use Rattle.json_read.specs.Progress as s
 use Rattle.json_read.specs.declared.string.Tail.{Tail}
 use Rattle.json_read.specs.declared.string.Tail.TheVariants as tails
-use Rattle.json_read.specs.declared.string.Quad.{Quad}
-use Rattle.json_read.specs.declared.string.Quad.TheVariants as q
+use Rattle.json_read.specs.Quad.{Quad}
+use Rattle.json_read.specs.Quad as q
 use Rattle.json_value.specs.Strings.{within, is_plain, short, hex_digit, is_high, is_low, join, four_digits, Chars, end, plain, wide, short_escape, escape, pair_escape, cut_escape}
 use Rattle.json_read.specs.Scan.{Scanned, lead, with, wide_by, plain_scan, short_by, escape_scan, unit_scan, hex_by, is_cut, hex_scan, may_be_low, pair_scan, low_by, low_scan, wide_next, wide_scan, slash_scan, letter_scan, scan, tail_low, tail_high}
 use Rattle.json_read.specs.Left.{OneDigit, Digits, CutDigits, Tails, Unit_, alone, two, HexLeft, PartLeft, TextLeft}

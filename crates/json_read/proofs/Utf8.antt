@@ -7,18 +7,18 @@ use Rattle.std.proofs.lemmas.Bool.{cond_both, eqb-true, or_cases, leb-true, le-l
 use Rattle.std.proofs.lemmas.List.{append-nil}
 use Rattle.std.proofs.lemmas.Str.{IsUtf8-append, IsUtf8-nil, IsUtf8-encode, encode_ascii}
 use Rattle.json_read.specs.declared.number.Digit.{Digit}
-use Rattle.json_read.specs.declared.string.Part.{Part}
-use Rattle.json_read.specs.declared.string.Part.TheVariants as p
-use Rattle.json_read.specs.declared.string.Progress.TheVariants as s
+use Rattle.json_read.specs.Part.{Part}
+use Rattle.json_read.specs.Part as p
+use Rattle.json_read.specs.Progress as s
 use Rattle.json_value.specs.Strings.{within, is_plain, short, hex_digit, is_high, is_low, join, IsWide, two, three_first, three, three_below, three_above, four_first, four, four_last, IsUnit, digits as unit_digits, Chars, end, plain, wide, short_escape, escape, pair_escape, cut_escape}
 use Rattle.json_value.specs.Numbers.{is_digit, is_e, AreDigits, IsMinus, positive, minus, IsInt, zero, digits, IsFrac, no_frac, frac, IsExp, no_exp, exp, signed_exp, IsNumber, number}
 use Rattle.json_read.specs.Numbers.{number_start, may_end}
-use Rattle.json_read.specs.Left.{Completes, TextLeft}
+use Rattle.json_read.specs.Left.{CompletesNumber, TextLeft}
 use Rattle.json_read.specs.Scan.{scan}
 use Rattle.json_read.proofs.Texts.{IsScanSound, scan_sound}
 use Rattle.json_read.proofs.NumberTexts.{reads_number}
 
-bounds : (low high b : ℕ) → within low high b ≡ true → (low ≤ b) × (b ≤ high)
+pub bounds : (low high b : ℕ) → within low high b ≡ true → (low ≤ b) × (b ≤ high)
 bounds low high b is = let h = and_parts (nat_le low b) (nat_le b high) is in (leb-true low b h.0, leb-true b high h.1)
 
 high_scalar : (c : ℕ) → 57344 ≤ c → c < 1114112 → IsScalar c
@@ -190,7 +190,7 @@ IsUtf8-number _ (number m i f e hm hi hf he) = IsUtf8-append m (i ++ (f ++ e)) (
 
 -- ---- strings
 
-short_ascii : (b c : ℕ) → short b ≡ Some c → c < 128
+pub short_ascii : (b c : ℕ) → short b ≡ Some c → c < 128
 short_ascii b c =
     cond_both (b == 34) (Some 34) _ P (λ _. row 34 (omega arith))
     (λ _. cond_both (b == 92) (Some 92) _ P (λ _. row 92 (omega arith))
@@ -250,7 +250,7 @@ not_within low high b is h k =
     let yes : within low high b ≡ true = and_from (nat_le low b) (nat_le b high) (le-leb low b h) (le-leb b high k) in
     absurd cc
 
-unit_scalar : (u : ℕ) → u ≤ 65535 → is_high u ≡ false → is_low u ≡ false → IsScalar u
+pub unit_scalar : (u : ℕ) → u ≤ 65535 → is_high u ≡ false → is_low u ≡ false → IsScalar u
 unit_scalar u small hi lo = by_case (cases_lt u 55296) (cases_lt 57343 u)
   where
     by_case : (u < 55296) ⊎ (55296 ≤ u) → (57343 < u) ⊎ (u ≤ 57343) → IsScalar u
@@ -258,7 +258,7 @@ unit_scalar u small hi lo = by_case (cases_lt u 55296) (cases_lt 57343 u)
     by_case (inr le) (inl gt) = high_scalar u (omega arith) (omega arith)
     by_case (inr le) (inr le') = elim (cases_lt 56319 u) [ inl gt ↦ absurd (not_within 0xDC00 0xDFFF u lo (omega arith) (omega arith)) | inr no_more ↦ absurd (not_within 0xD800 0xDBFF u hi (omega arith) (omega arith)) ]
 
-pair_scalar : (u v : ℕ) → is_high u ≡ true → is_low v ≡ true → IsScalar (join u v)
+pub pair_scalar : (u v : ℕ) → is_high u ≡ true → is_low v ≡ true → IsScalar (join u v)
 pair_scalar u v hi lo =
     let h = bounds 0xD800 0xDBFF u hi in
     let l = bounds 0xDC00 0xDFFF v lo in
@@ -288,8 +288,8 @@ more_holds at part part' text text' b holds is w f left = holds (b ∷ w) f (sub
 pub done_holds : (at : ℕ) (part : Part) (text f : List ℕ) (b : ℕ) → ((w f : List ℕ) → TextLeft false part text w f → IsUtf8 f) → scan false at part text b ≡ Ok (s.Done f) → IsUtf8 f
 done_holds at part text f b holds is = holds (b ∷ []) f (subst (IsScanSound false (TextLeft false part text) b) is (scan_sound false at part text b))
 
-pub number_holds : (b : ℕ) (part : Digit) → number_start b ≡ Some part → (a : List ℕ) → Completes part a → IsUtf8 ((b ∷ []) ++ a)
+pub number_holds : (b : ℕ) (part : Digit) → number_start b ≡ Some part → (a : List ℕ) → CompletesNumber part a → IsUtf8 ((b ∷ []) ++ a)
 number_holds b part is a h = IsUtf8-number (b ∷ a) (reads_number b a part is h)
 
-pub number_ends : (part : Digit) (text : List ℕ) → ((a : List ℕ) → Completes part a → IsUtf8 (text ++ a)) → may_end part ≡ true → IsUtf8 text
+pub number_ends : (part : Digit) (text : List ℕ) → ((a : List ℕ) → CompletesNumber part a → IsUtf8 (text ++ a)) → may_end part ≡ true → IsUtf8 text
 number_ends part text holds ends = subst IsUtf8 (append-nil text) (holds [] ends)

@@ -1,32 +1,32 @@
 -- The reader reads exactly the texts of the grammar.
-use Rattle.std.proofs.Common.{◌≡◌, ℕ, suc, ◌+◌, ◌<◌, ◌≤◌, Bool, true, false, cond, List, [], ◌∷◌, ◌++◌, length, reverse, drop, get_or, Option, Some, None, Result, Ok, Err, refl, sym, ap, subst, ◌∙◌, arith, inl, inr, length-append}
+use Rattle.std.proofs.Common.{◌≡◌, ℕ, suc, ◌+◌, ◌<◌, ◌≤◌, Bool, true, false, cond, List, [], ◌∷◌, ◌++◌, length, drop, get_or, Option, Some, None, Result, Ok, Err, refl, sym, ap, subst, ◌∙◌, arith, inl, inr, length-append}
 use Rattle.std.specs.Prelude.{codes, nat_lt, ◌==◌, ◌&&◌, slice_index, IfOk, MatchResult}
 use Rattle.std.specs.Str.{bytes_eq}
 use Rattle.std.proofs.Math.Seq.{drop-cons}
 use Rattle.std.proofs.lemmas.Bool.{cond_both, ltb-true, and_right, or_from, false_from_ne_true}
-use Rattle.std.proofs.lemmas.List.{append-nil, length-reverse}
+use Rattle.std.proofs.lemmas.List.{append-nil}
 use Rattle.std.proofs.lemmas.Slice.Eq.{bytes_eq-Decides}
 use Rattle.json_value.specs.declared.tree.Json.{Json}
 use Rattle.json_value.specs.declared.tree.Json.TheVariants as j
-use Rattle.json_read.specs.declared.refusal.Refusal.{Refusal}
-use Rattle.json_read.specs.declared.refusal.Refusal.TheVariants as e
+use Rattle.json_read.specs.Refusal.{Refusal}
+use Rattle.json_read.specs.Refusal as e
 use Rattle.json_value.specs.declared.fault.JsonFault.{JsonFault}
 use Rattle.json_value.specs.declared.fault.JsonFault.TheVariants as faults
-use Rattle.json_read.specs.declared.reader.Mode.{Mode}
-use Rattle.json_read.specs.declared.reader.Mode.TheVariants as m
-use Rattle.json_read.specs.declared.reader.Frame.{Frame}
-use Rattle.json_read.specs.declared.reader.Frame.TheVariants as f
+use Rattle.json_read.specs.Mode.{Mode}
+use Rattle.json_read.specs.Mode as m
+use Rattle.json_read.specs.Frame.{Frame}
+use Rattle.json_read.specs.Frame as f
 use Rattle.json_read.specs.declared.number.Digit.{Digit}
 use Rattle.json_read.specs.declared.number.Digit.TheVariants as dg
-use Rattle.json_read.specs.declared.string.Part.{Part}
-use Rattle.json_read.specs.declared.string.Part.TheVariants as p
-use Rattle.json_read.specs.declared.string.Progress.TheVariants as s
+use Rattle.json_read.specs.Part.{Part}
+use Rattle.json_read.specs.Part as p
+use Rattle.json_read.specs.Progress as s
 use Rattle.json_read.specs.Numbers.{number_start, number_next, may_end}
 use Rattle.json_value.specs.Grammar.{Rules, strict, is_blank, has, Spells, null, yes, no, number, string, empty, list, bare, object, Rest, close, more, Members, shut, another, IsText}
 use Rattle.json_read.specs.Scan.{Scanned, scan}
 use Rattle.exact_read.specs.Steps.{run}
-use Rattle.json_read.specs.Machine.{Frames, Pairs, State, Outcome, to, letters, meant, pick, unless_blank, beginnings, number_by, open_by, begin, value_step, first_step, after_by, after_step, word_step, number_go, number_step, str_by, first_name_step, next_name_step, named, naming_by, colon_step, step_by, step, start, finish, finish_by, number_end, whole, read_of, Reads}
-use Rattle.json_read.specs.Left.{Completes, TextLeft}
+use Rattle.json_read.specs.Machine.{Frames, Pairs, ReaderState, Stepped, to, letters, meant, pick, unless_blank, beginnings, number_by, open_by, begin, value_step, first_step, after_by, after_step, word_step, number_go, number_step, str_by, first_name_step, next_name_step, named, naming_by, colon_step, step_by, step, start, finish, finish_by, number_end, whole, read_of, Reads}
+use Rattle.json_read.specs.Left.{CompletesNumber, TextLeft}
 use Rattle.json_read.proofs.NumberTexts.{number_reads}
 use Rattle.json_read.proofs.TextsGo.{IsPart}
 use Rattle.json_read.proofs.TextsEnd.{ScanKeeps, scan_keeps, text_not_empty, part_ends}
@@ -36,15 +36,15 @@ use Rattle.exact_read.proofs.Machines.{ok_is, differ, run_sound, run_goes, run_k
 
 -- ---- each state that a step leads to is valid
 
-abbrev pub Keeps : Outcome → Type 0
+abbrev pub Keeps : Stepped → Type 0
 Keeps (Ok next) = IsValid next.mode
 Keeps (Err why) = Unit {0}
 
-abbrev AllKeep : List (ℕ × Outcome) → Type 0
+abbrev AllKeep : List (ℕ × Stepped) → Type 0
 AllKeep [] = Unit {0}
 AllKeep (x ∷ xs) = Keeps x.1 × AllKeep xs
 
-pick_keeps : (t : ℕ) (xs : List (ℕ × Outcome)) (other : Outcome) → AllKeep xs → Keeps other → Keeps (pick t xs other)
+pick_keeps : (t : ℕ) (xs : List (ℕ × Stepped)) (other : Stepped) → AllKeep xs → Keeps other → Keeps (pick t xs other)
 pick_keeps t [] other all h = h
 pick_keeps t (x ∷ xs) other all h = cond_both (t == x.0) x.1 (pick t xs other) Keeps (λ _. all.0) (λ _. pick_keeps t xs other all.1 h)
 
@@ -61,12 +61,12 @@ unfolding begin
 begin_keeps depth fs t = pick_keeps t (beginnings depth fs) (number_by fs t (number_start t))
     (open_keeps depth m.First fs tt, (open_keeps depth m.FirstName fs tt, (tt, (omega arith, (omega arith, (omega arith, tt)))))) (number_keeps fs t (number_start t))
 
-blank_keeps : (t : ℕ) (mode : Mode) (fs : Frames) (o : Outcome) → IsValid mode → Keeps o → Keeps (unless_blank t mode fs o)
+blank_keeps : (t : ℕ) (mode : Mode) (fs : Frames) (o : Stepped) → IsValid mode → Keeps o → Keeps (unless_blank t mode fs o)
 blank_keeps t mode fs o valid k = cond_both (is_blank t) (to mode fs) o Keeps (λ _. valid) (λ _. k)
 
 after_by_keeps : (fs : Frames) (x : Json) (t : ℕ) → Keeps (after_by fs x t)
 after_by_keeps [] x t = tt
-after_by_keeps (f.List xs ∷ fs) x t = pick_keeps t ((44, to m.Value (f.List (xs ++ x ∷ []) ∷ fs)) ∷ ((93, to (m.After (j.List (xs ++ x ∷ []))) fs) ∷ [])) (Err e.Syntax) (tt, (tt, tt)) tt
+after_by_keeps (f.Items xs ∷ fs) x t = pick_keeps t ((44, to m.Value (f.Items (xs ++ x ∷ []) ∷ fs)) ∷ ((93, to (m.After (j.List (xs ++ x ∷ []))) fs) ∷ [])) (Err e.Syntax) (tt, (tt, tt)) tt
 after_by_keeps (f.Member ms n ∷ fs) x t = pick_keeps t ((44, to (m.NextName (ms ++ (n, x) ∷ [])) fs) ∷ ((125, to (m.After (j.Object (ms ++ (n, x) ∷ []))) fs) ∷ [])) (Err e.Syntax) (tt, (tt, tt)) tt
 
 after_keeps : (fs : Frames) (x : Json) (t : ℕ) → Keeps (after_step fs x t)
@@ -91,10 +91,10 @@ naming_keeps distinct fs ms place (Ok (s.More part text)) h = h
 step_keeps : (r : Rules) (at : ℕ) (mode : Mode) (fs : Frames) (t : ℕ) → IsValid mode → Keeps (step_by r at mode fs t)
 unfolding value_step first_step word_step number_step first_name_step next_name_step colon_step
 step_keeps r at m.Value fs t valid = blank_keeps t m.Value fs (begin r.depth fs t) tt (begin_keeps r.depth fs t)
-step_keeps r at m.First fs t valid = blank_keeps t m.First fs _ tt (cond_both (t == 93) (to (m.After (j.List [])) fs) (begin r.depth (f.List [] ∷ fs) t) Keeps (λ _. tt) (λ _. begin_keeps r.depth (f.List [] ∷ fs) t))
+step_keeps r at m.First fs t valid = blank_keeps t m.First fs _ tt (cond_both (t == 93) (to (m.After (j.List [])) fs) (begin r.depth (f.Items [] ∷ fs) t) Keeps (λ _. tt) (λ _. begin_keeps r.depth (f.Items [] ∷ fs) t))
 step_keeps r at (m.After x) fs t valid = after_keeps fs x t
 step_keeps r at (m.Word word read) fs t valid =
-    let matched : Outcome = cond (nat_lt (read + 1) (length (letters word))) (to (m.Word word (read + 1)) fs) (to (m.After (meant word)) fs) in
+    let matched : Stepped = cond (nat_lt (read + 1) (length (letters word))) (to (m.Word word (read + 1)) fs) (to (m.After (meant word)) fs) in
     cond_both (nat_lt read (length (letters word)) && t == slice_index (letters word) read) matched (Err e.Syntax) Keeps
     (λ _. cond_both (nat_lt (read + 1) (length (letters word))) (to (m.Word word (read + 1)) fs) (to (m.After (meant word)) fs) Keeps (λ h. ltb-true _ _ h) (λ _. tt))
     (λ _. tt)
@@ -109,7 +109,7 @@ step_keeps r at (m.Colon ms n) fs t valid = blank_keeps t (m.Colon ms n) fs _ tt
 
 after_ends : (r : Rules) (fs : Frames) (x : Json) → (w : List ℕ) × (v : Json) × AfterLeft r fs x w v
 after_ends r [] x = ([], x, (tt, refl))
-after_ends r (f.List xs ∷ fs) x =
+after_ends r (f.Items xs ∷ fs) x =
     let end = after_ends r fs (j.List (xs ++ (x ∷ []))) in
     (93 ∷ end.0, end.1, ([], 93 ∷ [], end.0, close [] tt, refl, end.2))
 after_ends r (f.Member ms n ∷ fs) x =
@@ -163,7 +163,7 @@ str_ends r fs part text on valid =
 
 record NumberEnd (part : Digit) : Type 0 where
   bytes : List ℕ
-  completes : Completes part bytes
+  completes : CompletesNumber part bytes
 
 number_done : (part : Digit) → NumberEnd part
 number_done dg.Zero = record { bytes = []; completes = refl }
@@ -184,7 +184,7 @@ number_ends r fs part text =
 ends_by : (r : Rules) (mode : Mode) (fs : Frames) → r.cut ≡ true → IsValid mode → (w : List ℕ) × (v : Json) × LeftBy r mode fs w v
 ends_by r m.Value fs on valid = value_ends r fs
 ends_by r m.First fs on valid =
-    let end = value_ends r (f.List [] ∷ fs) in
+    let end = value_ends r (f.Items [] ∷ fs) in
     (end.0, end.1, inr end.2)
 ends_by r (m.After x) fs on valid = after_ends r fs x
 ends_by r (m.Word word read) fs on valid =
@@ -201,24 +201,24 @@ ends_by r (m.Colon ms n) fs on valid = colon_ends r fs ms n
 
 -- ---- the machine as the laws of first faults want it
 
-abbrev pub Valid : State → Type 0
+abbrev pub Valid : ReaderState → Type 0
 Valid s = IsValid s.mode
 
-pub sound : (r : Rules) (at : ℕ) (s : State) (t : ℕ) (next : State) (w : List ℕ) (v : Json) → step r at s t ≡ Ok next → Left r next w v → Left r s (t ∷ w) v
+pub sound : (r : Rules) (at : ℕ) (s : ReaderState) (t : ℕ) (next : ReaderState) (w : List ℕ) (v : Json) → step r at s t ≡ Ok next → Left r next w v → Left r s (t ∷ w) v
 unfolding step
-sound r at s t next w v e left = subst (λ (o : Outcome). IsSound r (Left r s) t o) e (step_sound r at s.mode s.frames t) w v left
+sound r at s t next w v e left = subst (λ (o : Stepped). IsSound r (Left r s) t o) e (step_sound r at s.mode s.frames t) w v left
 
-pub goes : (r : Rules) (at : ℕ) (s : State) (t : ℕ) (w : List ℕ) (v : Json) → Valid s → Left r s (t ∷ w) v → (next : State) × (step r at s t ≡ Ok next) × Left r next w v
+pub goes : (r : Rules) (at : ℕ) (s : ReaderState) (t : ℕ) (w : List ℕ) (v : Json) → Valid s → Left r s (t ∷ w) v → (next : ReaderState) × (step r at s t ≡ Ok next) × Left r next w v
 unfolding step
 goes r at s t w v valid left =
     let g = step_goes r at s.mode s.frames t w v valid left in
     (record { mode = g.mode; frames = g.frames }, g.steps, g.left)
 
-pub keeps : (r : Rules) (at : ℕ) (s : State) (t : ℕ) (next : State) → Valid s → step r at s t ≡ Ok next → Valid next
+pub keeps : (r : Rules) (at : ℕ) (s : ReaderState) (t : ℕ) (next : ReaderState) → Valid s → step r at s t ≡ Ok next → Valid next
 unfolding step
 keeps r at s t next valid e = subst Keeps e (step_keeps r at s.mode s.frames t valid)
 
-pub ends : (r : Rules) → r.cut ≡ true → (s : State) → Valid s → (w : List ℕ) × (v : Json) × Left r s w v
+pub ends : (r : Rules) → r.cut ≡ true → (s : ReaderState) → Valid s → (w : List ℕ) × (v : Json) × Left r s w v
 ends r on s valid = ends_by r s.mode s.frames on valid
 
 -- ---- whole texts
@@ -286,12 +286,12 @@ text_empty : (r : Rules) (part : Part) (text a b n : List ℕ) → IsPart part �
 text_empty r part text [] b n valid left e = text_not_empty r.cut part text n valid left
 text_empty r part text (c ∷ a) b n valid left e = absurd cc
 
-number_empty : (r : Rules) (part : Digit) (text a b : List ℕ) (v : Json) → Completes part a → [] ≡ a ++ b → AfterLeft r [] (j.Number (text ++ a)) b v → number_end (may_end part) text ≡ Ok v
+number_empty : (r : Rules) (part : Digit) (text a b : List ℕ) (v : Json) → CompletesNumber part a → [] ≡ a ++ b → AfterLeft r [] (j.Number (text ++ a)) b v → number_end (may_end part) text ≡ Ok v
 number_empty r part text [] b v ends e (blank, same) = rw ends (ap (λ (y : Json). Ok y) (ap (λ (q : List ℕ). j.Number q) (sym (append-nil text)) ∙ same))
 number_empty r part text (c ∷ a) b v ends e left = absurd cc
 
 after_open : (r : Rules) (f : Frame) (fs : Frames) (x : Json) (w : List ℕ) (v : Json) → w ≡ [] → AfterLeft r (f ∷ fs) x w v → ⊥
-after_open r (f.List xs) fs x w v e (ys, a, b, rest, cut, left) = rest_never_empty r _ ys a b rest (sym e ∙ cut)
+after_open r (f.Items xs) fs x w v e (ys, a, b, rest, cut, left) = rest_never_empty r _ ys a b rest (sym e ∙ cut)
 after_open r (f.Member ms n) fs x w v e (ys, a, b, others, cut, left) = members_never_empty r _ _ ys a b others (sym e ∙ cut)
 
 tail_empty : (a b : List ℕ) → [] ≡ a ++ b → b ≡ []
@@ -301,7 +301,7 @@ tail_empty (c ∷ a) b e = absurd cc
 left_nothing : (r : Rules) (mode : Mode) (fs : Frames) (v : Json) → IsValid mode → LeftBy r mode fs [] v → finish_by mode fs ≡ Ok v
 left_nothing r m.Value fs v valid left = absurd (value_not_empty r fs v left)
 left_nothing r m.First fs v valid (inl (s, b, blank, cut, left)) = absurd (space_not_empty s b 93 cut)
-left_nothing r m.First fs v valid (inr left) = absurd (value_not_empty r (f.List [] ∷ fs) v left)
+left_nothing r m.First fs v valid (inr left) = absurd (value_not_empty r (f.Items [] ∷ fs) v left)
 left_nothing r (m.Word word read) fs v valid (b, cut, left) =
     let at : drop read (letters word) ≡ get_or (letters word) read 0 ∷ drop (suc read) (letters word) = drop-cons (letters word) read 0 valid in
     let no : [] ≡ (get_or (letters word) read 0 ∷ drop (suc read) (letters word)) ++ b = cut ∙ ap (λ (q : List ℕ). q ++ b) at in
@@ -317,32 +317,11 @@ left_nothing r (m.NextName ms) fs v valid (s, b, blank, cut, left) = absurd (spa
 left_nothing r (m.Naming ms place part text) fs v valid (a, b, n, there, fresh, cut, left) = absurd (text_empty r part text a b n valid there cut)
 left_nothing r (m.Colon ms n) fs v valid (s, b, blank, cut, left) = absurd (space_not_empty s b 58 cut)
 
--- where something is open, the text has not ended
-pub open_ended : (mode : Mode) (fs : Frames) → (fs ≡ [] → ⊥) → finish_by mode (reverse fs) ≡ Err faults.Ended
-open_ended mode [] not = absurd (not refl)
-open_ended mode (f ∷ fs) not = by_frames (reverse (f ∷ fs)) (λ same. absurd (omega (arith, length-reverse (f ∷ fs), ap length same)))
-  where
-    by_frames : (gs : Frames) → (gs ≡ [] → finish_by mode gs ≡ Err faults.Ended) → finish_by mode gs ≡ Err faults.Ended
-    by_frames [] h = h refl
-    by_frames (g ∷ gs) h = by_mode mode
-      where
-        by_mode : (mode : Mode) → finish_by mode (g ∷ gs) ≡ Err faults.Ended
-        by_mode m.Value = refl
-        by_mode m.First = refl
-        by_mode (m.After x) = refl
-        by_mode (m.Word word read) = refl
-        by_mode (m.Number part text) = refl
-        by_mode (m.Str part text) = refl
-        by_mode m.FirstName = refl
-        by_mode (m.NextName ms) = refl
-        by_mode (m.Naming ms place part text) = refl
-        by_mode (m.Colon ms n) = refl
-
 pub read_found : (r : Rules) (bytes : List ℕ) (v : Json) → read_of r bytes ≡ Ok v → IsText r v bytes
 unfolding read_of finish
 read_found r bytes v e = go (run (step r) bytes 0 start) refl e
   where
-    go : (o : Result State (Refusal × ℕ)) → run (step r) bytes 0 start ≡ o → whole o ≡ Ok v → IsText r v bytes
+    go : (o : Result ReaderState (Refusal × ℕ)) → run (step r) bytes 0 start ≡ o → whole o ≡ Ok v → IsText r v bytes
     go (Ok s) is e = start_text r v bytes (subst (λ (q : List ℕ). Left r start q v) (append-nil bytes)
         (run_sound (step r) Valid (Left r) (sound r) (goes r) (keeps r) bytes 0 start s [] v is (nothing_left r s.mode s.frames v e)))
     go (Err x) is e = absurd cc

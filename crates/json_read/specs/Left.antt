@@ -1,21 +1,19 @@
 -- What may still come of a number or a string that is begun.
-use Rattle.std.specs.Prelude.{◌≡◌, ℕ, Bool, true, false, List, [], ◌∷◌, ◌++◌, Some, ◌⊎◌, encode_utf8, IsUtf8}
+use Rattle.std.specs.Prelude.{◌≡◌, ℕ, Bool, true, false, List, [], ◌∷◌, ◌++◌, Some, ◌⊎◌, encode_utf8}
 use Rattle.json_read.specs.declared.number.Digit.{Digit}
-use Rattle.json_read.specs.declared.string.Part.{Part}
-use Rattle.json_read.specs.declared.string.Part.TheVariants as p
+use Rattle.json_read.specs.Part.{Part}
+use Rattle.json_read.specs.Part as p
 use Rattle.json_read.specs.declared.string.Tail.{Tail}
 use Rattle.json_read.specs.declared.string.Tail.TheVariants as tails
-use Rattle.json_read.specs.declared.string.Quad.{Quad}
-use Rattle.json_read.specs.declared.string.Quad.TheVariants as q
-use Rattle.json_read.specs.declared.reader.Mode.{Mode}
-use Rattle.json_read.specs.declared.reader.Mode.TheVariants as m
+use Rattle.json_read.specs.Quad.{Quad}
+use Rattle.json_read.specs.Quad as q
 use Rattle.json_value.specs.Strings.{within, hex_digit, is_high, is_low, join, four_digits, Chars}
 use Rattle.json_read.specs.Numbers.{number_next, may_end}
 
 -- the bytes complete a number, after what was read of it
-abbrev pub Completes : Digit → List ℕ → Type 0
-Completes part [] = may_end part ≡ true
-Completes part (b ∷ bs) = (next : Digit) × (number_next part b ≡ Some next) × Completes next bs
+abbrev pub CompletesNumber : Digit → List ℕ → Type 0
+CompletesNumber part [] = may_end part ≡ true
+CompletesNumber part (b ∷ bs) = (next : Digit) × (number_next part b ≡ Some next) × CompletesNumber next bs
 
 pub record OneByte (low high : ℕ) (K : List ℕ → List ℕ → Type 0) (u w : List ℕ) : Type 0 where
   pub byte : ℕ
@@ -26,14 +24,14 @@ pub record OneByte (low high : ℕ) (K : List ℕ → List ℕ → Type 0) (u w 
   pub is : within low high byte ≡ true
   pub onward : K others after
 
-abbrev pub Ends : List ℕ → List ℕ → List ℕ → Type 0
-Ends l u w = (u ≡ []) × (w ≡ l)
+abbrev pub EndsValue : List ℕ → List ℕ → List ℕ → Type 0
+EndsValue l u w = (u ≡ []) × (w ≡ l)
 
 -- w begins with the rest u of a character, and l follows
 abbrev pub Tails : Tail → List ℕ → List ℕ → List ℕ → Type 0
-Tails (tails.One low high) l u w = OneByte low high (Ends l) u w
-Tails (tails.Two low high) l u w = OneByte low high (OneByte 128 191 (Ends l)) u w
-Tails (tails.Three low high) l u w = OneByte low high (OneByte 128 191 (OneByte 128 191 (Ends l))) u w
+Tails (tails.One low high) l u w = OneByte low high (EndsValue l) u w
+Tails (tails.Two low high) l u w = OneByte low high (OneByte 128 191 (EndsValue l)) u w
+Tails (tails.Three low high) l u w = OneByte low high (OneByte 128 191 (OneByte 128 191 (EndsValue l))) u w
 
 -- w begins with a hexadecimal digit, and after it K holds
 pub record OneDigit (K : ℕ → List ℕ → Type 0) (w : List ℕ) : Type 0 where
@@ -80,10 +78,3 @@ PartLeft cut (p.Wide at tail) t w = (u : List ℕ) × (l : List ℕ) × (t' : Li
 -- the whole text is f
 abbrev pub TextLeft : Bool → Part → List ℕ → List ℕ → List ℕ → Type 0
 TextLeft cut part text w f = (t : List ℕ) × PartLeft cut part t w × (f ≡ text ++ t)
-
--- What is held of a number or a string is UTF-8 once it is completed.
-abbrev pub HoldsText : Mode → Type 0
-HoldsText (m.Number part text) = (a : List ℕ) → Completes part a → IsUtf8 (text ++ a)
-HoldsText (m.Str part text) = (w f : List ℕ) → TextLeft false part text w f → IsUtf8 f
-HoldsText (m.Naming ms place part text) = (w f : List ℕ) → TextLeft false part text w f → IsUtf8 f
-HoldsText _ = Unit {0}

@@ -1,8 +1,14 @@
 pub mod Faults
+pub mod Frame
+pub mod Grown
 pub mod Left
 pub mod Machine
+pub mod Mode
 pub mod Numbers
+pub mod Part
+pub mod Progress
+pub mod Quad
+pub mod Reading
+pub mod Refusal
 pub mod Scan
-pub mod Tokens
-pub mod View
 pub mod Unique

@@ -1,17 +1,17 @@
 -- One byte of a string.
-use Rattle.std.specs.Prelude.{◌≡◌, ◌≢◌, ℕ, Bool, true, false, ◌&&◌, ◌==◌, nat_lt, if◌then◌else◌, List, [], ◌∷◌, ◌++◌, Option, Some, None, Result, Ok, Err, encode_utf8}
-use Rattle.json_read.specs.declared.refusal.Refusal.{Refusal}
-use Rattle.json_read.specs.declared.refusal.Refusal.TheVariants as e
-use Rattle.json_read.specs.declared.string.Part.{Part}
-use Rattle.json_read.specs.declared.string.Part.TheVariants as p
-use Rattle.json_read.specs.declared.string.Progress.{Progress}
-use Rattle.json_read.specs.declared.string.Progress.TheVariants as s
+use Rattle.std.specs.Prelude.{◌≡◌, ℕ, Bool, true, false, ◌&&◌, ◌==◌, nat_lt, if◌then◌else◌, List, [], ◌∷◌, ◌++◌, Option, Some, None, Result, Ok, Err, encode_utf8}
+use Rattle.json_read.specs.Refusal.{Refusal}
+use Rattle.json_read.specs.Refusal as e
+use Rattle.json_read.specs.Part.{Part}
+use Rattle.json_read.specs.Part as p
+use Rattle.json_read.specs.Progress.{StringProgress}
+use Rattle.json_read.specs.Progress as s
 use Rattle.json_read.specs.declared.string.Tail.{Tail}
 use Rattle.json_read.specs.declared.string.Tail.TheVariants as tails
-use Rattle.json_read.specs.declared.string.Quad.{Quad}
-use Rattle.json_read.specs.declared.string.Quad.TheVariants as q
-use Rattle.json_read.specs.declared.string.Grown.{Grown}
-use Rattle.json_read.specs.declared.string.Grown.TheVariants as g
+use Rattle.json_read.specs.Quad.{Quad}
+use Rattle.json_read.specs.Quad as q
+use Rattle.json_read.specs.Grown.{Grown}
+use Rattle.json_read.specs.Grown as g
 use Rattle.json_value.specs.Strings.{IsWide, within, is_plain, short, hex_digit, is_high, is_low, join, four_digits}
 
 -- characters that stand for themselves (RFC 8259, section 7: unescaped)
@@ -31,18 +31,10 @@ lead b = if within 194 223 b then Some (tails.One 128 191) else
     (if b == 244 then Some (tails.Three 128 143) else None))))))
 
 abbrev pub Scanned : Type 0
-Scanned = Result Progress Refusal
-
--- what a function that scans ensures, unless memory fails
-abbrev pub Scans : Scanned → Result Progress Refusal → Type 0
-Scans made (Ok scan) = made ≡ Ok scan
-Scans made (Err why) = why ≢ e.Memory → made ≡ Err why
+Scanned = Result StringProgress Refusal
 
 abbrev pub with : List ℕ → List ℕ → Scanned
 with text more = Ok (s.More p.Plain (text ++ more))
-
-abbrev pub with_part : List ℕ → ℕ → Part → Scanned
-with_part text b part = Ok (s.More part (text ++ b ∷ []))
 
 abbrev pub wide_by : ℕ → List ℕ → ℕ → Option Tail → Scanned
 wide_by at text b (Some tail) = Ok (s.More (p.Wide at tail) (text ++ b ∷ []))

@@ -21,23 +21,6 @@ impl Model for Buffer {
 }
 
 impl Buffer {
-    pub fn new(alloc: Global) -> Buffer
-        ensures { result ≡ [] }
-    {
-        Buffer {
-            inner: Vec::new(alloc),
-        }
-    }
-
-    /// No bytes, and room for so many.
-    pub fn with_room(alloc: Global, room: usize) -> Result<Buffer, AllocError>
-        ensures { IfOk result (λ b. b ≡ []) }
-    {
-        Ok(Buffer {
-            inner: Vec::with_capacity(alloc, room)?,
-        })
-    }
-
     /// A copy of the bytes.
     pub fn of(alloc: Global, bytes: &[u8]) -> Result<Buffer, AllocError>
         ensures { IfOk result (λ b. b ≡ bytes.now) }
@@ -47,21 +30,40 @@ impl Buffer {
         })
     }
 
-    pub fn push(&mut self, byte: u8) -> Result<(), AllocError>
-        ensures { OnOk result (self.new ≡ self.old ++ byte ∷ []) }
+    /// A copy of the bytes, with room for some more.
+    pub fn begun(alloc: Global, bytes: &[u8]) -> Result<Buffer, AllocError>
+        ensures { IfOk result (λ b. b ≡ bytes.now) }
     {
-        self.append(&[byte])
+        let room = bytes.len().saturating_mul(2).saturating_add(32);
+        let mut text = Buffer {
+            inner: Vec::with_capacity(alloc, room)?,
+        };
+        text.append(bytes)?;
+        Ok(text)
     }
 
     pub fn append(&mut self, bytes: &[u8]) -> Result<(), AllocError>
         ensures { OnOk result (self.new ≡ self.old ++ bytes.now) }
     {
+        if bytes.is_empty() {
+            return Ok(());
+        }
         self.inner.extend_from_slice(bytes)
+    }
+
+    fn push(&mut self, byte: u8) -> Result<(), AllocError>
+        ensures { OnOk result (self.new ≡ self.old ++ byte ∷ []) }
+    {
+        self.inner.push(byte)?;
+        Ok(())
     }
 
     pub fn push_char(&mut self, c: char) -> Result<(), AllocError>
         ensures { OnOk result (self.new ≡ self.old ++ encode_utf8 c) }
     {
+        if c.is_ascii() {
+            return self.push(c as u8);
+        }
         let mut room = [0; 4];
         let text = c.encode_utf8(&mut room);
         self.append(text.as_bytes())

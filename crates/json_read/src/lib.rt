@@ -2,13 +2,14 @@
 #![tactic(auto)]
 
 mod buffer;
+mod escape;
 mod laws;
 mod number;
 mod reader;
-mod refusal;
 mod string;
 #[cfg(test)]
 mod tests;
+mod words;
 
 pub use laws::{fault_is_one, text_has_one_value};
 pub use reader::read;

@@ -1,7 +1,13 @@
-//! One byte of a number.
+//! Numbers.
 
-ghost use Rattle.std.specs.Prelude.{◌≡◌};
+ghost use Rattle.std.specs.Prelude.{◌≡◌, ◌≤◌, ◌<◌, ◌+◌, length, slice_index, Some, None};
 ghost use Rattle.json_read.specs.Numbers as spec;
+ghost use Rattle.json_read.specs.Mode as modes;
+ghost use Rattle.json_read.specs.Reading.{NumberFollows, ReadsOn, Anywhere, cut};
+
+use crate::buffer::Buffer;
+use json_value::{Json, JsonFault};
+use std::alloc::Global;
 
 /// What was read last of a number.
 #[derive(Clone, Copy, Debug, PartialEq, Eq)]
@@ -50,4 +56,47 @@ pub fn may_end(part: Digit) -> bool
         part,
         Digit::Zero | Digit::Whole | Digit::Fraction | Digit::Exponent
     )
+}
+
+/// Where the number that was begun before this place ends, and what was read of it last.
+fn number_run(bytes: &[u8], at: usize, start: Digit) -> (usize, Digit)
+    requires { at ≤ length bytes.now }
+    ensures after { at ≤ result.0 }
+    ensures within { result.0 ≤ length bytes.now }
+    ensures follows { NumberFollows start (cut bytes.now at result.0) result.1 }
+    ensures stops { result.0 < length bytes.now
+        → spec.number_next result.1 (slice_index bytes.now result.0) ≡ None }
+{
+    let mut part = start;
+    let mut i = at;
+    while i < bytes.len() {
+        match number_next(part, bytes[i]) {
+            Some(next) => part = next,
+            None => return (i, part),
+        }
+        i += 1;
+    }
+    (i, part)
+}
+
+/// The number at this place, and the place after it.
+pub fn number(
+    alloc: Global,
+    bytes: &[u8],
+    at: usize,
+    start: Digit,
+) -> Result<(Json, usize), JsonFault>
+    requires within { at < length bytes.now }
+    requires begins { spec.number_start (slice_index bytes.now at) ≡ Some start }
+    ensures { ReadsOn Anywhere bytes.now at modes.Value result }
+{
+    let (end, part) = number_run(bytes, at + 1, start);
+    if may_end(part) {
+        let text = Buffer::of(alloc, &bytes[at..end])?;
+        return Ok((Json::Number(text.into_text()), end));
+    }
+    if end < bytes.len() {
+        return Err(JsonFault::Syntax(end as u64));
+    }
+    Err(JsonFault::Ended)
 }

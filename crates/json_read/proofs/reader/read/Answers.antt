@@ -4,10 +4,10 @@ use Rattle.json_read.proofs.Explained.{reads_fault}
 use Rattle.json_read.proofs.reader.read.Goals as goal
 
 pub returns-clause-found : goal.returns-clause-found
-returns-clause-found c = reads_found _ _ c.all.ensures
+returns-clause-found c = reads_found _ _ c.whole.ensures
 
 pub returns-clause-only : goal.returns-clause-only
-returns-clause-only c = reads_only _ _ c.all.ensures
+returns-clause-only c = reads_only _ _ c.whole.ensures
 
 pub returns-clause-fault : goal.returns-clause-fault
-returns-clause-fault c = reads_fault _ _ (are_bytes c.args.bytes.now c.type_inv.bytes) c.all.ensures
+returns-clause-fault c = reads_fault _ _ (are_bytes c.args.bytes.now c.type_inv.bytes) c.whole.ensures

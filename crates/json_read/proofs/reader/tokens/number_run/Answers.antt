@@ -1,6 +1,0 @@
-use Rattle.std.proofs.Common.{sym}
-use Rattle.json_read.proofs.Taken.{follows_more}
-use Rattle.json_read.proofs.reader.tokens.number_run.Goals as goal
-
-pub loop-i-preserved : goal.loop-i-preserved
-loop-i-preserved c = follows_more c.args.bytes.now c.loop-i.i c.args.start c.loop-i.part c.in-Some.next c.loop-i-test.true c.loop-i.invariant (sym c.in-Some.ensures)
