@@ -1,11 +1,12 @@
 -- How the runs and escapes of a string add up.
-use Rattle.std.proofs.Common.{◌≡◌, ℕ, suc, ◌+◌, ◌-◌, ◌<◌, ◌≤◌, inl, inr, List, [], ◌∷◌, ◌++◌, refl, ap, ◌∙◌, sym, append_assoc, length, take, drop, get_or, arith, add-one, drop-cons}
+use Rattle.std.proofs.Common.{◌≡◌, ℕ, zero, suc, ◌+◌, ◌-◌, ◌<◌, ◌≤◌, inl, inr, List, [], ◌∷◌, ◌++◌, refl, ap, subst, ◌∙◌, sym, append_assoc, length, take, drop, get_or, arith, add-one, drop-cons}
 use Rattle.std.proofs.Math.Seq.{take-suc}
-use Rattle.std.proofs.lemmas.List.{get_or-drop, length-drop}
+use Rattle.std.proofs.lemmas.List.{get_or-drop, get_or-take, length-drop, length-take-le}
+use Rattle.std.proofs.lemmas.Bool.{cases_lt}  -- `cases_lt` is `lt_or_ge` in other libraries, and gives their `le_total`
 use Rattle.std.proofs.lemmas.Bool.{ne_eqb, le-ltb}
 use Rattle.std.specs.Str.{IsUtf8, IsCharBoundary}
 use Rattle.std.proofs.lemmas.Str.{IsCharBoundary-start, IsCharBoundary-after_ascii}
-use Rattle.json_print.specs.Escapes.{NeedsEscape, escape, escaped}
+use Rattle.json_print.specs.Escapes.{NeedsEscape, ArePlain, HasEscape, escape, escaped}
 
 -- a byte that needs no escape stands for itself
 pub escape-plain : (b : ℕ) → (NeedsEscape b → ⊥) → escape b ≡ b ∷ []
@@ -85,3 +86,45 @@ escapes out middle now start text run i b utf8 within is needs ran wrote kept = 
 
     none : take (i + 1 - (i + 1)) (drop (i + 1) text) ≡ []
     none = ap (λ (n : ℕ). take n (drop (i + 1) text)) zero_left
+
+-- the run goes on over bytes that need no escape
+runs_by : (out start text : List ℕ) (run i n : ℕ) → i + n ≤ length text → ArePlain text i (i + n) → Kept out start text run i → Kept out start text run (i + n)
+runs_by out start text run i zero within plain kept = subst (λ (k : ℕ). Kept out start text run k) (sym nothing) kept
+  where
+    nothing : i + 0 ≡ i
+    nothing = omega arith
+runs_by out start text run i (suc n) within plain kept =
+    let here : i < length text = omega arith in
+    let reached : i + 1 + n ≡ i + suc n = omega arith in
+    let inside : i + 1 + n ≤ length text = omega arith in
+    let one : NeedsEscape (get_or text i 0) → ⊥ = plain i (omega arith) (omega arith) in
+    let more : ArePlain text (i + 1) (i + 1 + n) = λ k from to. plain k (omega arith) (omega arith) in
+    subst (λ (k : ℕ). Kept out start text run k) reached (runs_by out start text run (i + 1) n inside more (goes_on out start text run i (get_or text i 0) here refl one kept))
+
+pub runs_on : (out start text : List ℕ) (run i n : ℕ) → i ≤ n → n ≤ length text → ArePlain text i n → Kept out start text run i → Kept out start text run n
+runs_on out start text run i n order within plain kept =
+    let reached : i + (n - i) ≡ n = omega arith in
+    let inside : i + (n - i) ≤ length text = omega arith in
+    let same : ArePlain text i (i + (n - i)) = λ k from to. plain k from (omega arith) in
+    subst (λ (k : ℕ). Kept out start text run k) reached (runs_by out start text run i (n - i) inside same kept)
+
+-- a byte that needs an escape is one of its list
+found_at : (bs : List ℕ) (k : ℕ) → k < length bs → NeedsEscape (get_or bs k 0) → HasEscape bs
+found_at [] k within needs = absurd (omega arith)
+found_at (b ∷ bs) zero within needs = inl needs
+found_at (b ∷ bs) (suc k) within needs = inr (found_at bs k (omega arith) needs)
+
+-- a byte of a block, by its place in the whole
+in_block : (bytes : List ℕ) (end k : ℕ) → end + 16 ≤ length bytes → k < 16 → NeedsEscape (get_or bytes (end + k) 0) → HasEscape (take 16 (drop end bytes))
+in_block bytes end k within lt needs =
+    let long : k < length (take 16 (drop end bytes)) = rw (length-take-le 16 (drop end bytes) (rw length-drop (omega arith))) lt in
+    let same : get_or (take 16 (drop end bytes)) k 0 ≡ get_or bytes (end + k) 0 = get_or-take 16 (drop end bytes) k 0 lt ∙ get_or-drop end bytes k 0 in
+    found_at (take 16 (drop end bytes)) k long (subst NeedsEscape (sym same) needs)
+
+-- a block without a byte that needs an escape makes what is plain longer
+pub block_plain : (bytes : List ℕ) (from end width : ℕ) → width ≡ 16 → end + 16 ≤ length bytes → ArePlain bytes from end
+    → (HasEscape (take width (drop end bytes)) → ⊥) → ArePlain bytes from (end + 16)
+block_plain bytes from end width wide within plain none i lo hi needs = elim (cases_lt i end) [
+  | inl below ↦ plain i lo below needs
+  | inr above ↦ none (subst (λ (w : ℕ). HasEscape (take w (drop end bytes))) (sym wide) (in_block bytes end (i - end) within (omega arith) (subst (λ (j : ℕ). NeedsEscape (get_or bytes j 0)) (let e : i ≡ end + (i - end) = omega arith in e) needs)))
+]

@@ -1,9 +1,18 @@
 -- How a string is written (RFC 8259, section 7): what must be escaped is, and nothing else.
-use Rattle.std.specs.Prelude.{◌≡◌, ℕ, ◌+◌, ◌/◌, ◌%◌, ◌<◌, ◌==◌, ◌⊎◌, nat_lt, if◌then◌else◌, List, [], ◌∷◌, ◌++◌, codes}
+use Rattle.std.specs.Prelude.{◌≡◌, ℕ, ◌+◌, ◌/◌, ◌%◌, ◌<◌, ◌≤◌, ◌==◌, ◌⊎◌, nat_lt, if◌then◌else◌, List, [], ◌∷◌, ◌++◌, codes, get_or}
 
 -- the control characters, the quote and the backslash
 abbrev pub NeedsEscape : ℕ → Type 0
 NeedsEscape b = (b < 32) ⊎ ((b ≡ 34) ⊎ (b ≡ 92))
+
+-- one of the bytes needs an escape
+abbrev pub HasEscape : List ℕ → Type 0
+HasEscape [] = ⊥
+HasEscape (b ∷ bs) = NeedsEscape b ⊎ HasEscape bs
+
+-- none of the bytes from one place up to another needs an escape
+abbrev pub ArePlain : List ℕ → (from to : ℕ) → Type 0
+ArePlain bytes from to = (i : ℕ) → from ≤ i → i < to → NeedsEscape (get_or bytes i 0) → ⊥
 
 -- a hexadecimal digit, in lower case
 abbrev pub hex : ℕ → ℕ

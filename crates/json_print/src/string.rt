@@ -1,7 +1,12 @@
-ghost use Rattle.std.specs.Prelude.{◌≡◌, ◌<◌, ◌↔◌, ◌++◌, OnOk, IsTrue, string_bytes};
-ghost use Rattle.json_print.specs.Escapes.{NeedsEscape, hex, control, escape, quoted};
+ghost use Rattle.std.specs.Prelude.{◌≡◌, ◌<◌, ◌≤◌, ◌↔◌, ◌++◌, OnOk, IsTrue, length, get_or};
+ghost use Rattle.std.specs.Prelude.{string_bytes};
+ghost use Rattle.json_print.specs.Escapes.{NeedsEscape, ArePlain, HasEscape, hex, control, escape};
+ghost use Rattle.json_print.specs.Escapes.{quoted};
 
 use flow_base::Memory;
+
+/// How many bytes are looked at together: so many that the compiler tests them by wide registers.
+const BLOCK: usize = 16;
 
 /// Appends the text between quotes, with its escapes. What needs no escape goes in runs.
 pub fn put_string(out: &mut String, text: &str) -> Result<(), Memory>
@@ -10,23 +15,63 @@ pub fn put_string(out: &mut String, text: &str) -> Result<(), Memory>
     out.push_str("\"")?;
     let bytes = text.as_bytes();
     let mut run = 0;
-    for i in 0..bytes.len() {
-        let byte = bytes[i];
-        if needs_escape(byte) {
-            out.push_str(&text[run..i])?;
-            put_escape(out, byte)?;
-            run = i + 1;
-        }
+    let mut end = plain_end(bytes, 0);
+    while end < bytes.len() {
+        out.push_str(&text[run..end])?;
+        put_escape(out, bytes[end])?;
+        run = end + 1;
+        end = plain_end(bytes, run);
     }
     out.push_str(&text[run..])?;
     out.push_str("\"")?;
     Ok(())
 }
 
+/// The place of the first byte from `from` on that needs an escape, or the end.
+fn plain_end(bytes: &[u8], from: usize) -> usize
+    requires { from ≤ length bytes.now }
+    ensures order { from ≤ result }
+    ensures within { result ≤ length bytes.now }
+    ensures plain { ArePlain bytes.now from result }
+    ensures first { result < length bytes.now → NeedsEscape (get_or bytes.now result 0) }
+{
+    let mut end = from;
+    while bytes.len() - end >= BLOCK && !has_escape(&bytes[end..end + BLOCK]) {
+        end += BLOCK;
+    }
+    plain_end_by_bytes(bytes, end)
+}
+
+/// The same, byte by byte.
+fn plain_end_by_bytes(bytes: &[u8], from: usize) -> usize
+    requires { from ≤ length bytes.now }
+    ensures order { from ≤ result }
+    ensures within { result ≤ length bytes.now }
+    ensures plain { ArePlain bytes.now from result }
+    ensures first { result < length bytes.now → NeedsEscape (get_or bytes.now result 0) }
+{
+    let mut end = from;
+    while end < bytes.len() && !needs_escape(bytes[end]) {
+        end += 1;
+    }
+    end
+}
+
+/// Whether one of the bytes needs an escape. Each is looked at, so that nothing hangs on the ones before it.
+fn has_escape(bytes: &[u8]) -> bool
+    ensures { IsTrue result ↔ HasEscape bytes.now }
+{
+    let mut found = false;
+    for byte in bytes {
+        found = found | needs_escape(*byte);
+    }
+    found
+}
+
 fn needs_escape(byte: u8) -> bool
     ensures { IsTrue result ↔ NeedsEscape byte }
 {
-    byte < 32 || byte == b'"' || byte == b'\\'
+    (byte < 32) | (byte == b'"') | (byte == b'\\')
 }
 
 fn put_escape(out: &mut String, byte: u8) -> Result<(), Memory>

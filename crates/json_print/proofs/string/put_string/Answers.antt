@@ -1,22 +1,21 @@
-use Rattle.std.proofs.Common.{◌≡◌, rules, get_or}
+use Rattle.std.proofs.Common.{◌≡◌, ◌<◌, ◌+◌, refl, length, get_or, rules, arith}
 use Rattle.std.specs.Prelude.{string_bytes}
-use Rattle.json_print.specs.Escapes.{NeedsEscape}
-use Rattle.json_print.proofs.Runs.{begins, goes_on, escapes}
+use Rattle.json_print.specs.Escapes.{NeedsEscape, ArePlain}
+use Rattle.json_print.proofs.Runs.{begins, escapes, runs_on}
 use Rattle.json_print.proofs.string.put_string.Goals as goal
-use Rattle.json_print.proofs.string.put_string.Goals.{then-needs_escape+in_ok-push_str-2+in_ok-put_escape, else-needs_escape}
 
-pub loop-i-init : goal.loop-i-init
-loop-i-init c = begins _ _ _ c.utf8.text (search rules)
+pub loop-end-init : goal.loop-end-init
+loop-end-init c =
+    let same : c.as_bytes-bytes.result.now ≡ c.args.text.now = search rules in
+    (runs_on _ _ _ 0 0 _ (omega arith) (search rules) (search rules) (begins _ _ _ c.utf8.text (search rules)), search rules, search rules)
 
-pub loop-i-preserved : goal.loop-i-preserved
-loop-i-preserved c =
-    let is : get_or c.as_bytes-bytes.result.now c.loop-i.i 0 ≡ get_or c.args.text.now c.loop-i.i 0 = search rules in
-    elim c.if-needs_escape.branch [
-      | then-needs_escape+in_ok-push_str-2+in_ok-put_escape w ↦
-          (let needs : NeedsEscape (get_or c.as_bytes-bytes.result.now c.loop-i.i 0) = search rules in
-          rw (w.run-is, w.out-is) (escapes (string_bytes c.loop-i.out) (string_bytes w.push_str-then-needs_escape.new.self) (string_bytes w.put_escape.new.out) _ c.args.text.now c.loop-i.run c.loop-i.i _
-          c.utf8.text (search rules) is needs (search rules) (search rules) c.loop-i.invariant))
-      | else-needs_escape w ↦
-          (let plain : NeedsEscape (get_or c.as_bytes-bytes.result.now c.loop-i.i 0) → ⊥ = search rules in
-          rw (w.run-is, w.out-is) (goes_on _ _ _ _ _ _ (search rules) is plain c.loop-i.invariant))
-    ]
+pub loop-end-preserved : goal.loop-end-preserved
+loop-end-preserved c =
+    let inside : c.loop-end.end < length c.args.text.now = search rules in
+    let needs : NeedsEscape (get_or c.args.text.now c.loop-end.end 0) = c.loop-end.invariant.2 inside in
+    let plain : ArePlain c.args.text.now (c.loop-end.end + 1) c.plain_end-end-in-loop-end.result = search rules in (
+      runs_on _ _ _ _ _ _ c.plain_end-end-in-loop-end.ensures.order (search rules) plain
+          (escapes (string_bytes c.loop-end.out) (string_bytes c.push_str-in-loop-end.new.self) (string_bytes c.put_escape.new.out) (string_bytes c.args.out.now) _ c.loop-end.run c.loop-end.end _ c.utf8.text inside refl needs (search rules) (search rules) c.loop-end.invariant.0),
+      search rules,
+      search rules,
+    )
