@@ -7,8 +7,8 @@ use Rattle.gql_terms.specs.declared.documents.Selection.{Selection}
 use Rattle.gql_leaves.specs.Bares.{is_required}
 use Rattle.gql_shape.specs.declared.shaped.ShapeError.{ShapeError}
 use Rattle.gql_shape.specs.Terms.{Scope, Group, Collection}
-use Rattle.gql_shape.specs.Collecting.{Standing, Collects, Takes, none, next, nothing, takes_field, within, spreads, Selects}
-use Rattle.gql_shape.specs.Completing.{Rule, FieldRule, type_name, unknown, typed, kept, list_or_null, object_or_null, after, Completes, by_rule, Follows, null_stays, null_is_missing, is_wrong, leaf_stays, by_element, by_field, Elements, no_more, climbs, another, Fields, all_done, its_type, left_out, field_climbs, field_stays}
+use Rattle.gql_shape.specs.Collecting.{Standing, Collects, CollectsOne, none, next, nothing, takes_field, within, spreads, Selects}
+use Rattle.gql_shape.specs.Completing.{CompletionRule, FieldRule, type_name, unknown, typed, kept, list_or_null, object_or_null, after, Completes, by_rule, CompletesByRule, null_stays, null_is_missing, is_wrong, leaf_stays, by_element, by_field, Elements, no_more, climbs, another, CompletesFields, all_done, its_type, left_out, field_climbs, field_stays}
 
 pub no_some : {X : Type 0} {x : X} → None ≡ Some x → ⊥
 no_some e = cc
@@ -45,7 +45,7 @@ module _ (s : Scope) (object : List ℕ) where
         let same = Takes-one takes takes' in
         Collects-one rest (subst (λ (k : Collection). Collects s object xs k e') (sym same) rest')
 
-    pub Takes-one : {standing : Standing} {c d e : Collection} → Takes s object standing c d → Takes s object standing c e → d ≡ e
+    pub Takes-one : {standing : Standing} {c d e : Collection} → CollectsOne s object standing c d → CollectsOne s object standing c e → d ≡ e
     Takes-one nothing nothing = refl
     Takes-one takes_field takes_field = refl
     Takes-one (within inner) (within inner') = Collects-one inner inner'
@@ -60,8 +60,8 @@ module _ (s : Scope) where
         Completes s of xs v p o es → Completes s of xs v p o' es' → (o ≡ o') × (es ≡ es')
     Completes-one (by_rule {of} f) (by_rule f') = let h = Follows-one f f' in (ap (kept (is_required of)) h.0, h.1)
 
-    pub Follows-one : {r : Rule} {xs : List Selection} {p : List Spot} {w w' : Json} {es es' : List ShapeError} →
-        Follows s r xs p w es → Follows s r xs p w' es' → (w ≡ w') × (es ≡ es')
+    pub Follows-one : {r : CompletionRule} {xs : List Selection} {p : List Spot} {w w' : Json} {es es' : List ShapeError} →
+        CompletesByRule s r xs p w es → CompletesByRule s r xs p w' es' → (w ≡ w') × (es ≡ es')
     Follows-one null_stays null_stays = (refl, refl)
     Follows-one null_is_missing null_is_missing = (refl, refl)
     Follows-one is_wrong is_wrong = (refl, refl)
@@ -69,7 +69,7 @@ module _ (s : Scope) where
     Follows-one (by_element e) (by_element e') = let h = Elements-one e e' in (ap list_or_null h.0, h.1)
     Follows-one (by_field {xs} {p} {object} {members} {groups} {o} {es} selects f) (by_field {groups = groups'} {o = o'} {es = es'} selects' f') =
         let same = Selects-one s object xs groups groups' selects selects' in
-        let h = Fields-one f (subst (λ (gs : List Group). Fields s object members p gs o' es') (sym same) f') in
+        let h = Fields-one f (subst (λ (gs : List Group). CompletesFields s object members p gs o' es') (sym same) f') in
         (ap object_or_null h.0, h.1)
 
     pub Elements-one : {t : TypeRef} {xs : List Selection} {p : List Spot} {i : ℕ} {vs : List Json} {o o' : Option (List Json)} {es es' : List ShapeError} →
@@ -84,7 +84,7 @@ module _ (s : Scope) where
         (both_after (some_same h.0) k.0, both_append h.1 k.1)
 
     pub Fields-one : {object : List ℕ} {members : List (List ℕ × Json)} {p : List Spot} {gs : List Group} {o o' : Option (List (List ℕ × Json))} {es es' : List ShapeError} →
-        Fields s object members p gs o es → Fields s object members p gs o' es' → (o ≡ o') × (es ≡ es')
+        CompletesFields s object members p gs o es → CompletesFields s object members p gs o' es' → (o ≡ o') × (es ≡ es')
     Fields-one all_done all_done = (refl, refl)
     Fields-one (its_type is f) (its_type is' f') = let k = Fields-one f f' in (ap (after _) k.0, k.1)
     Fields-one (its_type is f) (left_out is' f') = absurd (type_unknown is is')

@@ -3,7 +3,7 @@ use Rattle.std.proofs.Common.{◌≡◌, ℕ, suc, ◌+◌, ◌<◌, ◌≤◌, 
 use Rattle.std.proofs.lemmas.List.{drop_all}
 use Rattle.gql_terms.specs.declared.documents.Selection.{Selection}
 use Rattle.gql_shape.specs.Terms.{Scope, Collection}
-use Rattle.gql_shape.specs.Collecting.{standing, Collects, Takes, none, next}
+use Rattle.gql_shape.specs.Collecting.{standing, Collects, CollectsOne, none, next}
 use Rattle.gql_shape.proofs.Spreads.{unseen, unseen-Takes}
 
 -- what completes the rest from here completes the whole from the beginning
@@ -15,7 +15,7 @@ pub begins : (s : Scope) (type_name : List ℕ) (xs : List Selection) (c : Colle
 begins s type_name xs c = record { goes = λ e h. h; fewer = omega arith }
 
 pub goes_on : (s : Scope) (type_name : List ℕ) (xs : List Selection) (i : ℕ) (x : Selection) (first now after : Collection) → i < length xs → x ≡ get_or xs i x →
-    Going s type_name xs (drop i xs) first now → Takes s type_name (standing s type_name now.seen x) now after → Going s type_name xs (drop (i + 1) xs) first after
+    Going s type_name xs (drop i xs) first now → CollectsOne s type_name (standing s type_name now.seen x) now after → Going s type_name xs (drop (i + 1) xs) first after
 goes_on s type_name xs i x first now after within is going takes =
     let cut : drop i xs ≡ x ∷ drop (i + 1) xs = rw add-one (drop-cons xs i x within ∙ ap (λ (y : Selection). y ∷ drop (suc i) xs) (sym is)) in
     let before : (e : Collection) → Collects s type_name (x ∷ drop (i + 1) xs) now e → Collects s type_name xs first e = rw cut at going.goes in

@@ -6,15 +6,18 @@ use Rattle.std.specs.Str.{bytes_eq}
 use Rattle.std.proofs.lemmas.List.{map-append, take_all, take-append-le, append-nil, length-map}
 use Rattle.std.proofs.lemmas.List.Quantifiers.{position-Some}
 use Rattle.std.proofs.lemmas.Slice.Eq.{bytes_eq-Decides}
+use Rattle.std.proofs.Math.ListN.{get_or-append}
 use Rattle.std.proofs.Math.Seq.{drop-append_seam}
 use Rattle.indexmap.specs.IndexMap.{IndexMap, get}
 use Rattle.gql_terms.specs.declared.documents.Selection.{Selection}
+use Rattle.gql_types.specs.declared.definition.TypeDef.{TypeDef}
 use Rattle.gql_types.specs.Schemas.{is_among}
 use Rattle.gql_shape.specs.declared.known.Stretch.{Stretch}
 use Rattle.gql_shape.specs.Terms.{Scope, Field, Group}
 use Rattle.gql_shape.specs.Collecting.{Selects, place_of}
 use Rattle.gql_shape.specs.Completing.{selections_of}
-use Rattle.gql_shape.specs.Indexed.{key_in, selections_at, groups_in, IsStretch, HoldsSelected, stretch_known, AreSelected, KnowsNoMore, IsNotedBeside, Collections, Extends}
+use Rattle.gql_shape.specs.Indexed.{key_in, RuledGroup, group_in, rule_in, rule_for, with_rule, selections_at, groups_in, IsStretch, AreRuled, HoldsSelected, stretch_known, AreSelected, KnowsNoMore, IsNotedBeside, Collections, Extends}
+use Rattle.gql_shape.specs.Kept.{KeptRule}
 use Rattle.gql_shape.proofs.Spreads.{either}
 
 -- ---- names that were noted
@@ -155,8 +158,8 @@ module _ {S : Type 0} where
 
   -- ---- the collections
 
-  pub nothing-known : (s : Scope) (gs : List Group) (known : List (IndexMap (List ℕ) Stretch S)) → KnowsNoMore [] known → AreSelected s gs known
-  nothing-known s gs known none i object stretch is = let absent : None ≡ Some stretch = none i object stretch is in absurd cc
+  pub nothing-known : (s : Scope) (gs : List Group) (rules : List KeptRule) (known : List (IndexMap (List ℕ) Stretch S)) → KnowsNoMore [] known → AreSelected s gs rules known
+  nothing-known s gs rules known none i object stretch is = let absent : None ≡ Some stretch = none i object stretch is in absurd cc
 
 selections-more : (gs more : List Group) (i : ℕ) → i < length gs → selections_at (gs ++ more) i ≡ selections_at gs i
 selections-more [] more i short = absurd (omega arith)
@@ -174,8 +177,60 @@ groups-more gs more stretch fits = ap (drop stretch.first) (take-append-le stret
 pub groups-kept : (gs more : List Group) → groups_in (record { first = length gs; past = length (gs ++ more) }) (gs ++ more) ≡ more
 groups-kept gs more = ap (drop (length gs)) (take_all (length (gs ++ more)) (gs ++ more) (omega arith)) ∙ drop-append_seam gs more
 
-holds-more : (s : Scope) (gs more : List Group) (i : ℕ) (object : List ℕ) (stretch : Stretch) → HoldsSelected s gs i object stretch → HoldsSelected s (gs ++ more) i object stretch
-holds-more s gs more i object stretch holds =
+-- ---- the rules
+
+pub get-kept : (rs more : List KeptRule) (i : ℕ) (k : KeptRule) → slice_get rs i ≡ Some k → slice_get (rs ++ more) i ≡ Some k
+get-kept [] more i k is = absurd cc
+get-kept (r ∷ rs) more zero k is = is
+get-kept (r ∷ rs) more (suc i) k is = get-kept rs more i k is
+
+-- the rule at a place is that which stands with the group
+pub rule-at : (rs : List RuledGroup) (i : ℕ) (r : RuledGroup) → i < length (map group_in rs) → r ≡ get_or rs i r → slice_get (map rule_in rs) i ≡ Some r.rule
+rule-at [] i r short is = absurd (omega arith)
+rule-at (q ∷ rs) zero r short is = ap (λ (k : RuledGroup). Some k.rule) (sym is)
+rule-at (q ∷ rs) (suc i) r short is = rule-at rs i r (omega arith) is
+
+pub group-in-at : (rs : List RuledGroup) (i : ℕ) (r : RuledGroup) → i < length (map group_in rs) → r ≡ get_or rs i r → r.group ≡ get_or (map group_in rs) i r.group
+group-in-at [] i r short is = absurd (omega arith)
+group-in-at (q ∷ rs) zero r short is = ap group_in is
+group-in-at (q ∷ rs) (suc i) r short is = group-in-at rs i r (omega arith) is
+
+module _ (schema : List TypeDef) (object : List ℕ) where
+  pub groups-ruled : (gs : List Group) → map group_in (map (with_rule schema object) gs) ≡ gs
+  groups-ruled [] = refl
+  groups-ruled (g ∷ gs) = ap (λ (hs : List Group). g ∷ hs) (groups-ruled gs)
+
+  pub rules-ruled : (gs : List Group) → map rule_in (map (with_rule schema object) gs) ≡ map (rule_for schema object) gs
+  rules-ruled [] = refl
+  rules-ruled (g ∷ gs) = ap (λ (ks : List KeptRule). rule_for schema object g ∷ ks) (rules-ruled gs)
+
+  pub rules-of : (gs : List Group) (i : ℕ) (g : Group) → i < length gs → g ≡ get_or gs i g → slice_get (map (rule_for schema object) gs) i ≡ Some (rule_for schema object g)
+  rules-of [] i g short is = absurd (omega arith)
+  rules-of (h ∷ gs) zero g short is = ap (λ (k : Group). Some (rule_for schema object k)) (sym is)
+  rules-of (h ∷ gs) (suc i) g short is = rules-of gs i g (omega arith) is
+
+  rules-behind : (rs : List RuledGroup) (gs : List Group) (i : ℕ) (g : Group) → length rs ≤ i → i < length (map group_in rs ++ gs) → g ≡ get_or (map group_in rs ++ gs) i g →
+      slice_get (map rule_in rs ++ map (rule_for schema object) gs) i ≡ Some (rule_for schema object g)
+  rules-behind [] gs i g past short is = rules-of gs i g short is
+  rules-behind (r ∷ rs) gs zero g past short is = absurd (omega arith)
+  rules-behind (r ∷ rs) gs (suc i) g past short is = rules-behind rs gs i g (omega arith) (omega arith) is
+
+-- all groups of one collection
+pub whole-ruled : (s : Scope) (object : List ℕ) (gs : List Group) → AreRuled s object (record { first = 0; past = length gs }) gs (map (rule_for s.schema object) gs)
+whole-ruled s object gs i g past before is = rules-of s.schema object gs i g before is
+
+ruled-more : (s : Scope) (object : List ℕ) (stretch : Stretch) (gs more : List Group) (rules added : List KeptRule) → IsStretch stretch gs → AreRuled s object stretch gs rules →
+    AreRuled s object stretch (gs ++ more) (rules ++ added)
+ruled-more s object stretch gs more rules added fits ruled i g past before is =
+    let far : stretch.past ≤ length gs = fits in
+    let short : i < length gs = omega arith in
+    get-kept rules added i (rule_for s.schema object g) (ruled i g past before (is ∙ get_or-append gs more g i short))
+
+-- ---- a collection behind the others
+
+holds-more : (s : Scope) (gs more : List Group) (rules added : List KeptRule) (i : ℕ) (object : List ℕ) (stretch : Stretch) → HoldsSelected s gs rules i object stretch →
+    HoldsSelected s (gs ++ more) (rules ++ added) i object stretch
+holds-more s gs more rules added i object stretch holds =
     let long : length (gs ++ more) ≡ length gs + length more = length-append gs more in
     let there = holds.there in
     let within : stretch.past ≤ length gs = holds.within in
@@ -183,49 +238,88 @@ holds-more s gs more i object stretch holds =
       there = omega (arith, there, long);
       within = omega (arith, long, within);
       selects = rw (selections-more gs more i there, groups-more gs more stretch within) holds.selects;
+      ruled = ruled-more s object stretch gs more rules added within holds.ruled;
     }
 
-pub selected-more : {S : Type 0} (s : Scope) (gs more gs' : List Group) (known next : List (IndexMap (List ℕ) Stretch S)) → AreSelected s gs known → gs' ≡ gs ++ more → KnowsNoMore known next → AreSelected s gs' next
-selected-more s gs more gs' known next all are none i object stretch is =
-    subst (λ (hs : List Group). HoldsSelected s hs i object stretch) (sym are) (holds-more s gs more i object stretch (all i object stretch (none i object stretch is)))
+pub selected-more : {S : Type 0} (s : Scope) (gs more gs' : List Group) (rules added rules' : List KeptRule) (known next : List (IndexMap (List ℕ) Stretch S)) → AreSelected s gs rules known →
+    gs' ≡ gs ++ more → rules' ≡ rules ++ added → KnowsNoMore known next → AreSelected s gs' rules' next
+selected-more s gs more gs' rules added rules' known next all are ruled none i object stretch is =
+    rw (are, ruled) (holds-more s gs more rules added i object stretch (all i object stretch (none i object stretch is)))
 
-pub selected-noted : {S : Type 0} (s : Scope) (gs : List Group) (known next : List (IndexMap (List ℕ) Stretch S)) (at : ℕ) (name : List ℕ) (noted : Stretch) → AreSelected s gs known →
-    HoldsSelected s gs at name noted → IsNotedBeside known at name noted next → AreSelected s gs next
-selected-noted s gs known next at name noted all holds beside i object stretch is = elim (beside i object stretch is) [
+pub selected-noted : {S : Type 0} (s : Scope) (gs : List Group) (rules : List KeptRule) (known next : List (IndexMap (List ℕ) Stretch S)) (at : ℕ) (name : List ℕ) (noted : Stretch) → AreSelected s gs rules known →
+    HoldsSelected s gs rules at name noted → IsNotedBeside known at name noted next → AreSelected s gs rules next
+selected-noted s gs rules known next at name noted all holds beside i object stretch is = elim (beside i object stretch is) [
   | inl before ↦ all i object stretch before
   | inr now ↦ rw (now.0, now.1, now.2) holds
 ]
 
--- what was collected for a group stands behind the others
-module _ (s : Scope) (gs more gs' : List Group) (at : ℕ) (object : List ℕ) (g : Group) (stretch : Stretch) (short : at < length gs) (is : g ≡ get_or gs at g)
-    (selected : Selects s object (selections_of g) more) (kept : gs' ≡ gs ++ more) (spans : stretch ≡ record { first = length gs; past = length gs' }) where
-  stands : groups_in stretch gs' ≡ more
-  stands = ap (λ (r : Stretch). groups_in r gs') spans ∙ (ap (λ (hs : List Group). groups_in (record { first = length gs; past = length hs }) hs) kept ∙ groups-kept gs more)
+-- what was collected for a group stands behind the others, with its rules
+module _ (s : Scope) (rs : List RuledGroup) (more : List Group) (rs' : List RuledGroup) (at : ℕ) (object : List ℕ) (r : RuledGroup) (stretch : Stretch) (short : at < length (map group_in rs)) (is : r ≡ get_or rs at r)
+    (selected : Selects s object (selections_of r.group) more) (kept : rs' ≡ rs ++ map (with_rule s.schema object) more) (spans : stretch ≡ record { first = length rs; past = length rs' }) where
+  abbrev gs : List Group
+  gs = map group_in rs
 
-  pub selects-kept : Selects s object (selections_at gs at) (groups_in stretch gs')
-  selects-kept = rw (selections-of gs at g short is, stands) selected
+  pub groups-grown : map group_in rs' ≡ gs ++ more
+  groups-grown = ap (map group_in) kept ∙ (map-append group_in rs (map (with_rule s.schema object) more) ∙ ap (λ (hs : List Group). gs ++ hs) (groups-ruled s.schema object more))
 
-  pub holds-kept : HoldsSelected s gs' at object stretch
+  pub rules-grown : map rule_in rs' ≡ map rule_in rs ++ map (rule_for s.schema object) more
+  rules-grown = ap (map rule_in) kept ∙ (map-append rule_in rs (map (with_rule s.schema object) more) ∙ ap (λ (ks : List KeptRule). map rule_in rs ++ ks) (rules-ruled s.schema object more))
+
+  spans-groups : stretch ≡ record { first = length gs; past = length (map group_in rs') }
+  spans-groups = rw (length-map rs group_in, length-map rs' group_in) spans
+
+  group-is : r.group ≡ get_or gs at r.group
+  group-is = group-in-at rs at r short is
+
+  stands : groups_in stretch (map group_in rs') ≡ more
+  stands = ap (λ (t : Stretch). groups_in t (map group_in rs')) spans-groups ∙ (ap (λ (hs : List Group). groups_in (record { first = length gs; past = length hs }) hs) groups-grown ∙ groups-kept gs more)
+
+  pub selects-kept : Selects s object (selections_at gs at) (groups_in stretch (map group_in rs'))
+  selects-kept = rw (selections-of gs at r.group short group-is, stands) selected
+
+  pub ruled-kept : AreRuled s object stretch (map group_in rs') (map rule_in rs')
+  ruled-kept i g past before here =
+      let first : stretch.first ≡ length rs = ap (λ (t : Stretch). t.first) spans in
+      let end : stretch.past ≡ length (map group_in rs') = ap (λ (t : Stretch). t.past) spans-groups in
+      let behind : length rs ≤ i = omega (arith, first) in
+      let inside : i < length (map group_in rs') = omega (arith, end) in
+      rw rules-grown (rules-behind s.schema object rs more i g behind (rw groups-grown at inside) (rw groups-grown at here))
+
+  pub holds-kept : HoldsSelected s (map group_in rs') (map rule_in rs') at object stretch
   holds-kept =
-      let long : length gs' ≡ length gs + length more = ap (λ (hs : List Group). length hs) kept ∙ length-append gs more in
-      let past : stretch.past ≡ length gs' = ap (λ (r : Stretch). r.past) spans in
+      let long : length (map group_in rs') ≡ length gs + length more = ap (λ (hs : List Group). length hs) groups-grown ∙ length-append gs more in
+      let past : stretch.past ≡ length (map group_in rs') = ap (λ (t : Stretch). t.past) spans-groups in
       record {
         there = omega (arith, long);
         within = omega (arith, past);
-        selects = subst (λ (xs : List Selection). Selects s object xs (groups_in stretch gs'))
-            (sym (ap (λ (hs : List Group). selections_at hs at) kept ∙ selections-more gs more at short)) selects-kept;
+        selects = subst (λ (xs : List Selection). Selects s object xs (groups_in stretch (map group_in rs')))
+            (sym (ap (λ (hs : List Group). selections_at hs at) groups-grown ∙ selections-more gs more at short)) selects-kept;
+        ruled = ruled-kept;
       }
+
+pub entered : {S : Type 0} (s : Scope) (rs : List RuledGroup) (more : List Group) (rs' : List RuledGroup) (known next noted : List (IndexMap (List ℕ) Stretch S)) (at : ℕ) (object name : List ℕ) (r : RuledGroup)
+    (stretch : Stretch) → at < length (map group_in rs) → r ≡ get_or rs at r → AreSelected s (map group_in rs) (map rule_in rs) known → Selects s object (selections_of r.group) more →
+    rs' ≡ rs ++ map (with_rule s.schema object) more → stretch ≡ record { first = length rs; past = length rs' } → KnowsNoMore known next → name ≡ object → IsNotedBeside next at name stretch noted →
+    AreSelected s (map group_in rs') (map rule_in rs') noted
+entered s rs more rs' known next noted at object name r stretch short is all selected kept spans none same beside =
+    let holds : HoldsSelected s (map group_in rs') (map rule_in rs') at name stretch = rw same (holds-kept s rs more rs' at object r stretch short is selected kept spans) in
+    let before : AreSelected s (map group_in rs') (map rule_in rs') next =
+    selected-more s (map group_in rs) more (map group_in rs') (map rule_in rs) (map (rule_for s.schema object) more) (map rule_in rs') known next all
+    (groups-grown s rs more rs' at object r stretch short is selected kept spans) (rules-grown s rs more rs' at object r stretch short is selected kept spans) none in
+    selected-noted s (map group_in rs') (map rule_in rs') next noted at name stretch before holds beside
 
 -- ---- collections that grow
 
 pub extends-none : (c : Collections) → Extends c c
-extends-none c = record { scope = refl; more = []; groups = sym (append-nil c.groups) }
+extends-none c = record { scope = refl; more = []; groups = sym (append-nil c.groups); more_rules = []; rules = sym (append-nil c.rules) }
 
 pub extends-on : (a b c : Collections) → Extends a b → Extends b c → Extends a c
 extends-on a b c first second = record {
   scope = second.scope ∙ first.scope;
   more = first.more ++ second.more;
   groups = second.groups ∙ (ap (λ (gs : List Group). gs ++ second.more) first.groups ∙ append_assoc a.groups first.more second.more);
+  more_rules = first.more_rules ++ second.more_rules;
+  rules = second.rules ∙ (ap (λ (ks : List KeptRule). ks ++ second.more_rules) first.rules ∙ append_assoc a.rules first.more_rules second.more_rules);
 }
 
 pub extends-within : (a b : Collections) (i : ℕ) → Extends a b → i < length a.groups → i < length b.groups
@@ -235,3 +329,11 @@ extends-within a b i extends short =
 
 pub extends-selections : (a b : Collections) (i : ℕ) → Extends a b → i < length a.groups → selections_at b.groups i ≡ selections_at a.groups i
 extends-selections a b i extends short = ap (λ (gs : List Group). selections_at gs i) extends.groups ∙ selections-more a.groups extends.more i short
+
+-- the rule that is kept at a place of a stretch is that of the group there
+pub rule-there : (a b : Collections) (object : List ℕ) (stretch : Stretch) (i : ℕ) (g : Group) (k : KeptRule) → Extends a b → AreRuled a.scope object stretch a.groups a.rules → stretch.first ≤ i → i < stretch.past →
+    g ≡ get_or a.groups i g → slice_get b.rules i ≡ Some k → k ≡ rule_for a.scope.schema object g
+rule-there a b object stretch i g k extends ruled past before is here =
+    let there : slice_get b.rules i ≡ Some (rule_for a.scope.schema object g) = rw extends.rules (get-kept a.rules extends.more_rules i (rule_for a.scope.schema object g) (ruled i g past before is)) in
+    let same : Some k ≡ Some (rule_for a.scope.schema object g) = sym here ∙ there in
+    cc

@@ -1,5 +1,6 @@
 pub mod Spreads
 pub mod Grouping
+pub mod Kept
 pub mod Indexed
 pub mod Going
 pub mod Standings

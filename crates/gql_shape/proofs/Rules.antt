@@ -14,7 +14,7 @@ use Rattle.gql_shape.specs.declared.shaped.ShapeCode.TheVariants as code
 use Rattle.gql_shape.specs.declared.shaped.ShapeError.{ShapeError}
 use Rattle.gql_shape.proofs.Spreads.{either}
 use Rattle.gql_shape.specs.Terms.{Scope}
-use Rattle.gql_shape.specs.Completing.{Rule, null, missing, wrong, leaf, elements, rule, rule_of, value_rule, composite_rule, is_composite, plain_rule, fields_rule, list_type, composite_type, object_type, kept, error, Completes, by_rule, Follows, null_stays, null_is_missing, Settles}
+use Rattle.gql_shape.specs.Completing.{CompletionRule, null, missing, wrong, leaf, elements, rule, rule_of, value_rule, composite_rule, is_composite, plain_rule, fields_rule, list_type, composite_type, object_type, kept, error, Completes, by_rule, CompletesByRule, null_stays, null_is_missing, IsLeft}
 
 -- ---- null
 
@@ -22,20 +22,20 @@ pub null_required : (s : Scope) (of : TypeRef) (xs : List Selection) (p : List S
     is_required of ≡ true → es ≡ error code.NullInNonNull p ∷ [] → Completes s of xs j.Null p None es
 null_required s of xs p es required is =
     let r : rule s.schema of j.Null ≡ missing = rw (j.outs-Null, required) refl in
-    let follows : Follows s (rule s.schema of j.Null) xs p j.Null (error code.NullInNonNull p ∷ []) = rw r null_is_missing in
+    let follows : CompletesByRule s (rule s.schema of j.Null) xs p j.Null (error code.NullInNonNull p ∷ []) = rw r null_is_missing in
     let o : kept (is_required of) j.Null ≡ None = rw (required, j.outs-Null) refl in
     rw is (subst (λ (k : Option Json). Completes s of xs j.Null p k (error code.NullInNonNull p ∷ [])) o (by_rule follows))
 
 pub null_allowed : (s : Scope) (of : TypeRef) (xs : List Selection) (p : List Spot) → is_required of ≡ false → Completes s of xs j.Null p (Some j.Null) []
 null_allowed s of xs p required =
     let r : rule s.schema of j.Null ≡ null = rw (j.outs-Null, required) refl in
-    let follows : Follows s (rule s.schema of j.Null) xs p j.Null [] = rw r null_stays in
+    let follows : CompletesByRule s (rule s.schema of j.Null) xs p j.Null [] = rw r null_stays in
     let o : kept (is_required of) j.Null ≡ Some j.Null = rw required refl in
     subst (λ (k : Option Json). Completes s of xs j.Null p k []) o (by_rule follows)
 
 -- ---- the rules
 
-leaf_or_wrong : (composite fitting : Bool) (r : Rule) → cond composite wrong (cond fitting r wrong) ≡ cond (not composite && fitting) r wrong
+leaf_or_wrong : (composite fitting : Bool) (r : CompletionRule) → cond composite wrong (cond fitting r wrong) ≡ cond (not composite && fitting) r wrong
 leaf_or_wrong true fitting r = refl
 leaf_or_wrong false fitting r = refl
 
@@ -100,12 +100,12 @@ module _ (schema : List TypeDef) (of : TypeRef) (v : Json) where
   rule-object ms name is found = at_layer (Json-F.Object ms) (j.Object ms) is (j.outs-Object ms) ∙ an_object schema (bare of) v ms name found
 
 -- what follows the rule of the value completes it
-pub settled : (s : Scope) (of : TypeRef) (xs : List Selection) (v : Json) (p : List Spot) (r : Rule) (o : Option Json) (es : List ShapeError) →
-    rule s.schema of v ≡ r → Settles s r (is_required of) xs p o es → Completes s of xs v p o es
+pub settled : (s : Scope) (of : TypeRef) (xs : List Selection) (v : Json) (p : List Spot) (r : CompletionRule) (o : Option Json) (es : List ShapeError) →
+    rule s.schema of v ≡ r → IsLeft s r (is_required of) xs p o es → Completes s of xs v p o es
 settled s of xs v p r o es is settles =
-    let follows : Follows s (rule s.schema of v) xs p settles.value es = rw is settles.follows in
+    let follows : CompletesByRule s (rule s.schema of v) xs p settles.value es = rw is settles.follows in
     rw settles.left (by_rule follows)
 
 pub settled_plain : (s : Scope) (of : TypeRef) (xs : List Selection) (v : Json) (p q : List Spot) (o : Option Json) (es : List ShapeError) →
-    rule s.schema of v ≡ plain_rule s.schema (bare of) v → ((ys : List Selection) → Settles s (plain_rule s.schema (bare of) v) (is_required of) ys q o es) → q ≡ p → Completes s of xs v p o es
+    rule s.schema of v ≡ plain_rule s.schema (bare of) v → ((ys : List Selection) → IsLeft s (plain_rule s.schema (bare of) v) (is_required of) ys q o es) → q ≡ p → Completes s of xs v p o es
 settled_plain s of xs v p q o es is settles same = rw (← same) (settled s of xs v q (plain_rule s.schema (bare of) v) o es is (settles xs))

@@ -10,7 +10,7 @@ use Rattle.gql_terms.specs.declared.documents.TypeRef.{TypeRef}
 use Rattle.gql_terms.specs.declared.documents.Selection.{Selection}
 use Rattle.gql_shape.specs.declared.shaped.ShapeError.{ShapeError}
 use Rattle.gql_shape.specs.Terms.{Scope, Group}
-use Rattle.gql_shape.specs.Completing.{Completes, Elements, no_more, climbs, another, Fields, all_done, its_type, left_out, field_climbs, field_stays, after, field_rule, type_name, unknown, typed, or_null, selections_of}
+use Rattle.gql_shape.specs.Completing.{Completes, Elements, no_more, climbs, another, CompletesFields, all_done, its_type, left_out, field_climbs, field_stays, after, field_rule, type_name, unknown, typed, or_null, selections_of}
 
 -- what was made before what is still to come, if that comes
 abbrev pub ahead : {X : Type 0} → List X → Option (List X) → Option (List X)
@@ -58,7 +58,7 @@ module _ (s : Scope) (t : TypeRef) (xs : List Selection) (p : List Spot) (all : 
 -- ---- fields
 
 pub record FieldsRun (s : Scope) (object : List ℕ) (members : List (List ℕ × Json)) (p : List Spot) (all rest : List Group) (made : List (List ℕ × Json)) (es : List ShapeError) : Type 0 where
-  pub goes : (o : Option (List (List ℕ × Json))) (fs : List ShapeError) → Fields s object members p rest o fs → Fields s object members p all (ahead made o) (es ++ fs)
+  pub goes : (o : Option (List (List ℕ × Json))) (fs : List ShapeError) → CompletesFields s object members p rest o fs → CompletesFields s object members p all (ahead made o) (es ++ fs)
 
 module _ (s : Scope) (object : List ℕ) (members : List (List ℕ × Json)) (p : List Spot) (all : List Group) where
   pub fields_begin : FieldsRun s object members p all all [] []
@@ -66,7 +66,7 @@ module _ (s : Scope) (object : List ℕ) (members : List (List ℕ × Json)) (p 
 
   -- what is left of the groups stands at the end of a list
   module _ (up : List Group) (i : ℕ) (made : List (List ℕ × Json)) (es : List ShapeError) (run : FieldsRun s object members p all (drop i up) made es) (g : Group) (within : i < length up) (is : g ≡ get_or up i g) where
-    step_in : (o : Option (List (List ℕ × Json))) (gs : List ShapeError) → Fields s object members p (g ∷ drop (suc i) up) o gs → Fields s object members p all (ahead made o) (es ++ gs)
+    step_in : (o : Option (List (List ℕ × Json))) (gs : List ShapeError) → CompletesFields s object members p (g ∷ drop (suc i) up) o gs → CompletesFields s object members p all (ahead made o) (es ++ gs)
     step_in = rw (drop-cons up i g within ∙ ap (λ (h : Group). h ∷ drop (suc i) up) (sym is)) at run.goes
 
     pub fields_type : field_rule s.schema object g.first.name ≡ type_name → FieldsRun s object members p all (drop (i + 1) up) (made ++ ((g.first.key, j.Str object) ∷ [])) es
@@ -84,10 +84,10 @@ module _ (s : Scope) (object : List ℕ) (members : List (List ℕ × Json)) (p 
     })
 
     pub fields_climb : (t : TypeRef) (fs : List ShapeError) → field_rule s.schema object g.first.name ≡ typed t →
-        Completes s t (selections_of g) (or_null (named g.first.key members)) (p ++ (spot.Name g.first.key ∷ [])) None fs → Fields s object members p all None (es ++ fs)
+        Completes s t (selections_of g) (or_null (named g.first.key members)) (p ++ (spot.Name g.first.key ∷ [])) None fs → CompletesFields s object members p all None (es ++ fs)
     fields_climb t fs found completes = step_in None fs (field_climbs found completes)
 
-  pub fields_end : (up : List Group) (i : ℕ) (made : List (List ℕ × Json)) (es : List ShapeError) → FieldsRun s object members p all (drop i up) made es → length up ≤ i → Fields s object members p all (Some made) es
+  pub fields_end : (up : List Group) (i : ℕ) (made : List (List ℕ × Json)) (es : List ShapeError) → FieldsRun s object members p all (drop i up) made es → length up ≤ i → CompletesFields s object members p all (Some made) es
   fields_end up i made es run past =
-      let before : (o : Option (List (List ℕ × Json))) (gs : List ShapeError) → Fields s object members p [] o gs → Fields s object members p all (ahead made o) (es ++ gs) = rw (drop_all i up past) at run.goes in
+      let before : (o : Option (List (List ℕ × Json))) (gs : List ShapeError) → CompletesFields s object members p [] o gs → CompletesFields s object members p all (ahead made o) (es ++ gs) = rw (drop_all i up past) at run.goes in
       rw (append-nil made, append-nil es) at (before (Some []) [] all_done)

@@ -8,7 +8,7 @@ use Rattle.gql_terms.specs.declared.documents.Selection.{Selection}
 use Rattle.gql_terms.specs.declared.documents.Fragment.{Fragment}
 use Rattle.gql_types.specs.Schemas.{is_among}
 use Rattle.gql_shape.specs.Terms.{Scope, Collection}
-use Rattle.gql_shape.specs.Collecting.{fragment_named, Standing, Collects, Takes, none, next, nothing, takes_field, within, spreads}
+use Rattle.gql_shape.specs.Collecting.{fragment_named, Standing, Collects, CollectsOne, none, next, nothing, takes_field, within, spreads}
 
 pub either : (b : Bool) → (b ≡ true) ⊎ (b ≡ false)
 either true = inl refl
@@ -125,7 +125,7 @@ module _ (s : Scope) (type_name : List ℕ) where
         let later = unseen-Collects collects in
         omega (arith, here, later)
 
-    pub unseen-Takes : {standing : Standing} {c d : Collection} → Takes s type_name standing c d → unseen d.seen s.fragments ≤ unseen c.seen s.fragments
+    pub unseen-Takes : {standing : Standing} {c d : Collection} → CollectsOne s type_name standing c d → unseen d.seen s.fragments ≤ unseen c.seen s.fragments
     unseen-Takes nothing = omega arith
     unseen-Takes takes_field = omega arith
     unseen-Takes (within collects) = unseen-Collects collects

@@ -11,17 +11,17 @@ use Rattle.gql_types.specs.declared.definition.TypeDef.{TypeDef}
 use Rattle.gql_shape.specs.declared.shaped.ShapeError.{ShapeError}
 use Rattle.gql_shape.specs.declared.shaped.Shaped.{Shaped}
 use Rattle.gql_shape.specs.Terms.{Scope, Group}
-use Rattle.gql_shape.specs.Completing.{Rule, object_or_null, Completes, by_rule, Follows, null_stays, leaf_stays, by_element, by_field, Elements, no_more, climbs, another, Fields, all_done, its_type, left_out, field_climbs, field_stays, rule, or_null, selections_of}
-use Rattle.gql_shape.specs.Shaping.{IsAnswer, answers, IsShaping, root_type, members_of}
-use Rattle.gql_shape.specs.Whole.{IsWhole, null_is_whole, leaf_is_whole, list_is_whole, object_is_whole, AreWhole, no_item, item, HasWhole, no_group, name_of_type, no_field, a_field, has_whole, IsWholeData}
+use Rattle.gql_shape.specs.Completing.{CompletionRule, object_or_null, Completes, by_rule, CompletesByRule, null_stays, leaf_stays, by_element, by_field, Elements, no_more, climbs, another, CompletesFields, all_done, its_type, left_out, field_climbs, field_stays, rule, or_null, selections_of}
+use Rattle.gql_shape.specs.Shaping.{IsShaped, answers, IsShaping, root_type, members_of}
+use Rattle.gql_shape.specs.Whole.{IsWholeByRule, null_is_whole, leaf_is_whole, list_is_whole, object_is_whole, AreWhole, no_item, item, HasWhole, no_group, name_of_type, no_field, a_field, has_whole, IsWholeData}
 use Rattle.gql_shape.proofs.Determined.{Selects-one, Fields-one, type_unknown, type_typed, unknown_typed, typed_same, both_append}
 
 -- ---- one answer
 
-answer_one : (s : Scope) (operation : Operation) (tree : Json) (a b : Shaped) → IsAnswer s operation tree a → IsAnswer s operation tree b → a ≡ b
+answer_one : (s : Scope) (operation : Operation) (tree : Json) (a b : Shaped) → IsShaped s operation tree a → IsShaped s operation tree b → a ≡ b
 answer_one s operation tree a b x y =
     let same = Selects-one s (root_type operation.kind) operation.selections x.groups y.groups x.selected y.selected in
-    let h = Fields-one s x.completed (subst (λ (gs : List Group). Fields s (root_type operation.kind) (members_of tree) [] gs y.members b.errors) (sym same) y.completed) in
+    let h = Fields-one s x.completed (subst (λ (gs : List Group). CompletesFields s (root_type operation.kind) (members_of tree) [] gs y.members b.errors) (sym same) y.completed) in
     let value : a.value ≡ b.value = x.value ∙ (ap object_or_null h.0 ∙ sym y.value) in
     let errors : a.errors ≡ b.errors = h.1 in
     λ i. record { value = value i; errors = errors i }
@@ -38,12 +38,12 @@ shaping_is_one schema document variables tree a b x y = answers_one (record { sc
 nothing_more : {X : Type 0} {xs ys : List X} → xs ≡ [] → ys ≡ [] → xs ++ ys ≡ []
 nothing_more e f = both_append e f
 
-of_type : (s : Scope) (t u : TypeRef) (v : Json) (xs : List Selection) → t ≡ u → IsWhole s (rule s.schema t v) xs → IsWhole s (rule s.schema u v) xs
-of_type s t u v xs e is = subst (λ (k : TypeRef). IsWhole s (rule s.schema k v) xs) e is
+of_type : (s : Scope) (t u : TypeRef) (v : Json) (xs : List Selection) → t ≡ u → IsWholeByRule s (rule s.schema t v) xs → IsWholeByRule s (rule s.schema u v) xs
+of_type s t u v xs e is = subst (λ (k : TypeRef). IsWholeByRule s (rule s.schema k v) xs) e is
 
 module _ (s : Scope) where
   mutual
-    pub whole-Follows : {r : Rule} {xs : List Selection} {p : List Spot} {w : Json} {es : List ShapeError} → IsWhole s r xs → Follows s r xs p w es → es ≡ []
+    pub whole-Follows : {r : CompletionRule} {xs : List Selection} {p : List Spot} {w : Json} {es : List ShapeError} → IsWholeByRule s r xs → CompletesByRule s r xs p w es → es ≡ []
     whole-Follows null_is_whole null_stays = refl
     whole-Follows leaf_is_whole leaf_stays = refl
     whole-Follows (list_is_whole are) (by_element e) = whole-Elements are e
@@ -51,7 +51,7 @@ module _ (s : Scope) where
         let same = Selects-one s object xs groups groups' selects selects' in
         whole-Fields (subst (λ (gs : List Group). HasWhole s object members gs) same has) f
 
-    pub whole-Completes : {of : TypeRef} {xs : List Selection} {v : Json} {p : List Spot} {o : Option Json} {es : List ShapeError} → IsWhole s (rule s.schema of v) xs → Completes s of xs v p o es → es ≡ []
+    pub whole-Completes : {of : TypeRef} {xs : List Selection} {v : Json} {p : List Spot} {o : Option Json} {es : List ShapeError} → IsWholeByRule s (rule s.schema of v) xs → Completes s of xs v p o es → es ≡ []
     whole-Completes is (by_rule f) = whole-Follows is f
 
     pub whole-Elements : {t : TypeRef} {xs : List Selection} {p : List Spot} {i : ℕ} {vs : List Json} {o : Option (List Json)} {es : List ShapeError} → AreWhole s t xs vs → Elements s t xs p i vs o es → es ≡ []
@@ -60,7 +60,7 @@ module _ (s : Scope) where
     whole-Elements (item is are) (another c e) = nothing_more (whole-Completes is c) (whole-Elements are e)
 
     pub whole-Fields : {object : List ℕ} {members : List (List ℕ × Json)} {p : List Spot} {gs : List Group} {o : Option (List (List ℕ × Json))} {es : List ShapeError} →
-        HasWhole s object members gs → Fields s object members p gs o es → es ≡ []
+        HasWhole s object members gs → CompletesFields s object members p gs o es → es ≡ []
     whole-Fields no_group all_done = refl
     whole-Fields (name_of_type is has) (its_type is' f) = whole-Fields has f
     whole-Fields (name_of_type is has) (left_out is' f) = absurd (type_unknown is is')

@@ -114,14 +114,14 @@ mutual
   pub data Collects (s : Scope) (type_name : List ℕ) : List Selection → Collection → Collection → Type 0 where
     none : {c : Collection} → Collects s type_name [] c c
     next : {x : Selection} {xs : List Selection} {c d e : Collection} →
-        Takes s type_name (standing s type_name c.seen x) c d → Collects s type_name xs d e → Collects s type_name (x ∷ xs) c e
+        CollectsOne s type_name (standing s type_name c.seen x) c d → Collects s type_name xs d e → Collects s type_name (x ∷ xs) c e
 
-  pub data Takes (s : Scope) (type_name : List ℕ) : Standing → Collection → Collection → Type 0 where
-    nothing : {c : Collection} → Takes s type_name left_out c c
-    takes_field : {f : Field} {c : Collection} → Takes s type_name (field f) c (with_field f c)
-    within : {xs : List Selection} {c d : Collection} → Collects s type_name xs c d → Takes s type_name (inline xs) c d
+  pub data CollectsOne (s : Scope) (type_name : List ℕ) : Standing → Collection → Collection → Type 0 where
+    nothing : {c : Collection} → CollectsOne s type_name left_out c c
+    takes_field : {f : Field} {c : Collection} → CollectsOne s type_name (field f) c (with_field f c)
+    within : {xs : List Selection} {c d : Collection} → Collects s type_name xs c d → CollectsOne s type_name (inline xs) c d
     spreads : {name : List ℕ} {xs : List Selection} {c d : Collection} →
-        Collects s type_name xs (with_spread name c) d → Takes s type_name (spread name xs) c d
+        Collects s type_name xs (with_spread name c) d → CollectsOne s type_name (spread name xs) c d
 
 -- the fields that the selections select, in their groups
 abbrev pub Selects : Scope → List ℕ → List Selection → List Group → Type 0

@@ -18,8 +18,6 @@ use Rattle.gql_leaves.specs.Leaves.{fits}
 use Rattle.gql_shape.specs.declared.shaped.ShapeCode.{ShapeCode}
 use Rattle.gql_shape.specs.declared.shaped.ShapeCode.TheVariants as code
 use Rattle.gql_shape.specs.declared.shaped.ShapeError.{ShapeError}
-use Rattle.gql_shape.specs.declared.rule.FieldRule as answer
-use Rattle.gql_shape.specs.declared.rule.FieldRule.TheVariants as answers
 use Rattle.gql_shape.specs.Terms.{Scope, Field, Group}
 use Rattle.gql_shape.specs.Collecting.{Selects}
 
@@ -42,19 +40,19 @@ is_composite_kind _ = false
 abbrev pub is_composite : List TypeDef → List ℕ → Bool
 is_composite schema name = is_composite_kind (schemas.kind schema name)
 
-pub data Rule : Type 0 where
+pub data CompletionRule : Type 0 where
   -- null stays
-  null : Rule
+  null : CompletionRule
   -- null where the type has a non-null mark
-  missing : Rule
+  missing : CompletionRule
   -- a value of another kind
-  wrong : Rule
+  wrong : CompletionRule
   -- the value of a scalar or an enum
-  leaf : Json → Rule
+  leaf : Json → CompletionRule
   -- each element by this type
-  elements : TypeRef → List Json → Rule
+  elements : TypeRef → List Json → CompletionRule
   -- the members by the fields of this object type
-  fields : List ℕ → List (List ℕ × Json) → Rule
+  fields : List ℕ → List (List ℕ × Json) → CompletionRule
 
 -- the type that an object says it has; one that says none has the type that is asked for
 abbrev pub said_type : List ℕ → Option Json → Option (List ℕ)
@@ -73,32 +71,32 @@ object_type_said schema name (Some said) = if is_one_of schema name said then So
 abbrev pub object_type : List TypeDef → List ℕ → List (List ℕ × Json) → Option (List ℕ)
 object_type schema name members = object_type_said schema name (said_type name (named (codes "__typename") members))
 
-abbrev pub fields_rule : List (List ℕ × Json) → Option (List ℕ) → Rule
+abbrev pub fields_rule : List (List ℕ × Json) → Option (List ℕ) → CompletionRule
 fields_rule members None = wrong
 fields_rule members (Some object) = fields object members
 
-abbrev pub composite_rule : List TypeDef → List ℕ → Json-F Json → Rule
+abbrev pub composite_rule : List TypeDef → List ℕ → Json-F Json → CompletionRule
 composite_rule schema name (Json-F.Object members) = fields_rule members (object_type schema name members)
 composite_rule schema name _ = wrong
 
-abbrev pub leaf_rule : List TypeDef → List ℕ → Json → Rule
+abbrev pub leaf_rule : List TypeDef → List ℕ → Json → CompletionRule
 leaf_rule schema name v = if fits schema name v then leaf v else wrong
 
-abbrev pub value_rule : List TypeDef → Bare → Json → Json-F Json → Rule
+abbrev pub value_rule : List TypeDef → Bare → Json → Json-F Json → CompletionRule
 value_rule schema (list_of t) v (Json-F.List items) = elements t items
 value_rule schema (list_of t) v _ = wrong
 value_rule schema (named_type name) v layer =
     if is_composite schema name then composite_rule schema name layer else leaf_rule schema name v
 
-abbrev pub null_rule : Bool → Rule
+abbrev pub null_rule : Bool → CompletionRule
 null_rule true = missing
 null_rule false = null
 
-abbrev pub rule_of : List TypeDef → TypeRef → Json → Json-F Json → Rule
+abbrev pub rule_of : List TypeDef → TypeRef → Json → Json-F Json → CompletionRule
 rule_of schema of v Json-F.Null = null_rule (is_required of)
 rule_of schema of v layer = value_rule schema (bare of) v layer
 
-abbrev pub rule : List TypeDef → TypeRef → Json → Rule
+abbrev pub rule : List TypeDef → TypeRef → Json → CompletionRule
 rule schema of v = rule_of schema of v (out-Json v)
 
 -- ---- nulls that climb
@@ -160,22 +158,22 @@ error c spots = record { code = c; place = record { spots = spots } }
 -- ---- completion
 
 -- Completes: the value, read with these selections at this place, leaves that value (or none, where a null climbs) and
--- these errors. Elements and Fields go in order, and end with the first part that leaves no value.
+-- these errors. Elements and CompletesFields go in order, and end with the first part that leaves no value.
 mutual
   pub data Completes (s : Scope) : TypeRef → List Selection → Json → List Spot → Option Json → List ShapeError → Type 0 where
     by_rule : {of : TypeRef} {xs : List Selection} {v : Json} {p : List Spot} {w : Json} {es : List ShapeError} →
-        Follows s (rule s.schema of v) xs p w es → Completes s of xs v p (kept (is_required of) w) es
+        CompletesByRule s (rule s.schema of v) xs p w es → Completes s of xs v p (kept (is_required of) w) es
 
-  pub data Follows (s : Scope) : Rule → List Selection → List Spot → Json → List ShapeError → Type 0 where
-    null_stays : {xs : List Selection} {p : List Spot} → Follows s null xs p j.Null []
-    null_is_missing : {xs : List Selection} {p : List Spot} → Follows s missing xs p j.Null (error code.NullInNonNull p ∷ [])
-    is_wrong : {xs : List Selection} {p : List Spot} → Follows s wrong xs p j.Null (error code.WrongKind p ∷ [])
-    leaf_stays : {xs : List Selection} {p : List Spot} {v : Json} → Follows s (leaf v) xs p v []
+  pub data CompletesByRule (s : Scope) : CompletionRule → List Selection → List Spot → Json → List ShapeError → Type 0 where
+    null_stays : {xs : List Selection} {p : List Spot} → CompletesByRule s null xs p j.Null []
+    null_is_missing : {xs : List Selection} {p : List Spot} → CompletesByRule s missing xs p j.Null (error code.NullInNonNull p ∷ [])
+    is_wrong : {xs : List Selection} {p : List Spot} → CompletesByRule s wrong xs p j.Null (error code.WrongKind p ∷ [])
+    leaf_stays : {xs : List Selection} {p : List Spot} {v : Json} → CompletesByRule s (leaf v) xs p v []
     by_element : {xs : List Selection} {p : List Spot} {t : TypeRef} {items : List Json} {o : Option (List Json)} {es : List ShapeError} →
-        Elements s t xs p 0 items o es → Follows s (elements t items) xs p (list_or_null o) es
+        Elements s t xs p 0 items o es → CompletesByRule s (elements t items) xs p (list_or_null o) es
     by_field : {xs : List Selection} {p : List Spot} {object : List ℕ} {members : List (List ℕ × Json)} {groups : List Group}
         {o : Option (List (List ℕ × Json))} {es : List ShapeError} →
-        Selects s object xs groups → Fields s object members p groups o es → Follows s (fields object members) xs p (object_or_null o) es
+        Selects s object xs groups → CompletesFields s object members p groups o es → CompletesByRule s (fields object members) xs p (object_or_null o) es
 
   -- the elements from this index on
   pub data Elements (s : Scope) : TypeRef → List Selection → List Spot → ℕ → List Json → Option (List Json) → List ShapeError → Type 0 where
@@ -186,27 +184,27 @@ mutual
         Completes s t xs v (p ++ (spot.Index i ∷ [])) (Some w) es → Elements s t xs p (suc i) vs o fs → Elements s t xs p i (v ∷ vs) (after w o) (es ++ fs)
 
   -- the fields of an object of this type with these members, group by group
-  pub data Fields (s : Scope) : List ℕ → List (List ℕ × Json) → List Spot → List Group → Option (List (List ℕ × Json)) → List ShapeError → Type 0 where
-    all_done : {object : List ℕ} {members : List (List ℕ × Json)} {p : List Spot} → Fields s object members p [] (Some []) []
+  pub data CompletesFields (s : Scope) : List ℕ → List (List ℕ × Json) → List Spot → List Group → Option (List (List ℕ × Json)) → List ShapeError → Type 0 where
+    all_done : {object : List ℕ} {members : List (List ℕ × Json)} {p : List Spot} → CompletesFields s object members p [] (Some []) []
     its_type : {object : List ℕ} {members : List (List ℕ × Json)} {p : List Spot} {g : Group} {gs : List Group} {o : Option (List (List ℕ × Json))} {es : List ShapeError} →
-        field_rule s.schema object g.first.name ≡ type_name → Fields s object members p gs o es →
-        Fields s object members p (g ∷ gs) (after (g.first.key, j.Str object) o) es
+        field_rule s.schema object g.first.name ≡ type_name → CompletesFields s object members p gs o es →
+        CompletesFields s object members p (g ∷ gs) (after (g.first.key, j.Str object) o) es
     left_out : {object : List ℕ} {members : List (List ℕ × Json)} {p : List Spot} {g : Group} {gs : List Group} {o : Option (List (List ℕ × Json))} {es : List ShapeError} →
-        field_rule s.schema object g.first.name ≡ unknown → Fields s object members p gs o es → Fields s object members p (g ∷ gs) o es
+        field_rule s.schema object g.first.name ≡ unknown → CompletesFields s object members p gs o es → CompletesFields s object members p (g ∷ gs) o es
     field_climbs : {object : List ℕ} {members : List (List ℕ × Json)} {p : List Spot} {g : Group} {gs : List Group} {t : TypeRef} {es : List ShapeError} →
         field_rule s.schema object g.first.name ≡ typed t →
         Completes s t (selections_of g) (or_null (named g.first.key members)) (p ++ (spot.Name g.first.key ∷ [])) None es →
-        Fields s object members p (g ∷ gs) None es
+        CompletesFields s object members p (g ∷ gs) None es
     field_stays : {object : List ℕ} {members : List (List ℕ × Json)} {p : List Spot} {g : Group} {gs : List Group} {t : TypeRef} {w : Json}
         {o : Option (List (List ℕ × Json))} {es fs : List ShapeError} →
         field_rule s.schema object g.first.name ≡ typed t →
         Completes s t (selections_of g) (or_null (named g.first.key members)) (p ++ (spot.Name g.first.key ∷ [])) (Some w) es →
-        Fields s object members p gs o fs → Fields s object members p (g ∷ gs) (after (g.first.key, w) o) (es ++ fs)
+        CompletesFields s object members p gs o fs → CompletesFields s object members p (g ∷ gs) (after (g.first.key, w) o) (es ++ fs)
 
 -- what is left of a value that follows the rule
-pub record Settles (s : Scope) (r : Rule) (required : Bool) (xs : List Selection) (p : List Spot) (o : Option Json) (es : List ShapeError) : Type 0 where
+pub record IsLeft (s : Scope) (r : CompletionRule) (required : Bool) (xs : List Selection) (p : List Spot) (o : Option Json) (es : List ShapeError) : Type 0 where
   pub value : Json
-  pub follows : Follows s r xs p value es
+  pub follows : CompletesByRule s r xs p value es
   pub left : o ≡ kept required value
 
 abbrev pub list_type : Bare → Option TypeRef
@@ -221,7 +219,7 @@ abbrev pub is_leaf : List TypeDef → List ℕ → Json → Bool
 is_leaf schema name v = not (is_composite schema name) && fits schema name v
 
 -- what the type makes of a value that is not null, and neither a list for a list type nor an object for a composite one
-abbrev pub plain_rule : List TypeDef → Bare → Json → Rule
+abbrev pub plain_rule : List TypeDef → Bare → Json → CompletionRule
 plain_rule schema (list_of t) v = wrong
 plain_rule schema (named_type name) v = if is_leaf schema name v then leaf v else wrong
 
@@ -229,9 +227,3 @@ plain_rule schema (named_type name) v = if is_leaf schema name v then leaf v els
 abbrev pub place_of : List ℕ → List (List ℕ × Json) → ℕ
 place_of name [] = 0
 place_of name (m ∷ ms) = if bytes_eq m.0 name then 0 else suc (place_of name ms)
-
--- what the code answers
-abbrev pub shown_rule : answer.FieldRule → FieldRule
-shown_rule answers.TypeName = type_name
-shown_rule answers.Unknown = unknown
-shown_rule (answers.Typed t) = typed t.now

@@ -6,7 +6,7 @@ use Rattle.gql_types.specs.declared.definition.TypeDef.{TypeDef}
 use Rattle.gql_terms.specs.declared.documents.Document.{Document}
 use Rattle.gql_shape.specs.declared.shaped.ShapeError.{ShapeError}
 use Rattle.gql_shape.specs.Terms.{Scope, Group}
-use Rattle.gql_shape.specs.Completing.{FieldRule, type_name, unknown, typed, field_rule, Fields}
+use Rattle.gql_shape.specs.Completing.{FieldRule, type_name, unknown, typed, field_rule, CompletesFields}
 
 -- a field that the type lacks adds no key; `__typename` and a field that it has add the group's
 abbrev pub with_key : FieldRule → List ℕ → List (List ℕ) → List (List ℕ)
@@ -29,7 +29,7 @@ HaveKeys ks (Some made) = map key_of made ≡ ks
 -- so does each object that is completed, at whatever place
 abbrev pub ObjectsHaveKeys : Scope → Type 0
 ObjectsHaveKeys s = (object : List ℕ) (members : List (List ℕ × Json)) (p : List Spot) (gs : List Group) (o : Option (List (List ℕ × Json))) (es : List ShapeError) →
-    Fields s object members p gs o es → HaveKeys (keys s.schema object gs) o
+    CompletesFields s object members p gs o es → HaveKeys (keys s.schema object gs) o
 
 abbrev pub read_in : List TypeDef → Document → Json → Scope
 read_in schema document variables = record { schema = schema; fragments = document.fragments; variables = variables }

@@ -4,4 +4,5 @@ pub mod Completing
 pub mod Keys
 pub mod Shaping
 pub mod Whole
+pub mod Kept
 pub mod Indexed

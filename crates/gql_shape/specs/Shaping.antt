@@ -10,7 +10,7 @@ use Rattle.gql_types.specs.declared.definition.TypeDef.{TypeDef}
 use Rattle.gql_shape.specs.declared.shaped.Shaped.{Shaped}
 use Rattle.gql_shape.specs.Terms.{Scope, Group}
 use Rattle.gql_shape.specs.Collecting.{Selects}
-use Rattle.gql_shape.specs.Completing.{Fields, object_or_null}
+use Rattle.gql_shape.specs.Completing.{CompletesFields, object_or_null}
 
 abbrev pub root_type : OpKind → List ℕ
 root_type kinds.Mutation = codes "Mutation"
@@ -24,16 +24,16 @@ members_at _ = []
 abbrev pub members_of : Json → List (List ℕ × Json)
 members_of v = members_at (out-Json v)
 
-pub record IsAnswer (s : Scope) (operation : Operation) (tree : Json) (shaped : Shaped) : Type 0 where
+pub record IsShaped (s : Scope) (operation : Operation) (tree : Json) (shaped : Shaped) : Type 0 where
   pub groups : List Group
   pub members : Option (List (List ℕ × Json))
   pub selected : Selects s (root_type operation.kind) operation.selections groups
-  pub completed : Fields s (root_type operation.kind) (members_of tree) [] groups members shaped.errors
+  pub completed : CompletesFields s (root_type operation.kind) (members_of tree) [] groups members shaped.errors
   pub value : shaped.value ≡ object_or_null members
 
 abbrev pub answers : Scope → List Operation → Json → Shaped → Type 0
 answers s [] tree shaped = ⊥
-answers s (operation ∷ _) tree shaped = IsAnswer s operation tree shaped
+answers s (operation ∷ _) tree shaped = IsShaped s operation tree shaped
 
 -- the document's operation, read in the schema with these variables, has that answer over the data
 abbrev pub IsShaping : List TypeDef → Document → Json → Json → Shaped → Type 0

@@ -1,18 +1,21 @@
-ghost use Rattle.std.specs.Prelude.{◌≡◌, ◌<◌, List, ◌++◌, ◌∷◌, [], length, IfOk, OnOk};
+ghost use Rattle.std.specs.Prelude.{◌≡◌, ◌<◌, ℕ, List, ◌++◌, ◌∷◌, [], length, IfOk, OnOk};
 ghost use Rattle.json_value.specs.Members.{named};
 ghost use Rattle.json_paths.specs.declared.path.Spot as path;
 ghost use Rattle.json_paths.specs.declared.path.Spot.TheVariants as spot;
 ghost use Rattle.gql_leaves.specs.Bares.{is_required};
 ghost use Rattle.gql_shape.specs.Completing as spec;
-ghost use Rattle.gql_shape.specs.Completing.{Completes, Settles, or_null};
-ghost use Rattle.gql_shape.specs.Indexed.{selections_at, groups_in, IsIndexOf, IsStretch, Extends};
+ghost use Rattle.gql_shape.specs.Completing.{Completes, IsLeft, or_null};
+ghost use Rattle.gql_shape.specs.Indexed.{selections_at, groups_in, IsIndexOf, IsStretch, AreRuled, Extends};
+ghost use Rattle.gql_shape.specs.Kept as kept_rules;
+ghost use Rattle.gql_shape.specs.Kept.{base_of, CompletesField};
 
+use crate::base::Base;
 use crate::collections::Collections;
 use crate::known::Stretch;
-use crate::places::Places;
+use crate::places::{FEW, Places};
 use crate::plain::{complete_null, complete_plain, kept, wrong_kind};
-use crate::rule::{FieldRule, field_rule, list_type};
-use crate::shaped::{Completed, Members, ShapeError, Values};
+use crate::rule::{FieldRule, composite_type};
+use crate::shaped::{Completed, CompletedField, Members, ShapeError, Values};
 use flow_base::{Memory, Text};
 use gql_terms::TypeRef;
 use json_paths::Spot;
@@ -38,6 +41,15 @@ pub fn object_or_null(members: Option<Items<(Text, Json)>>) -> Json
     }
 }
 
+fn member_of(key: Text, value: Option<Json>) -> Option<(Text, Json)>
+    ensures { result ≡ kept_rules.member_of key value }
+{
+    match value {
+        Some(value) => Some((key, value)),
+        None => None,
+    }
+}
+
 /// Takes the last spot off.
 fn leave(spots: &mut Vec<Spot>)
     ensures { (p : List path.Spot) → (s : path.Spot) → spots.old.items ≡ p ++ (s ∷ []) →
@@ -46,17 +58,32 @@ fn leave(spots: &mut Vec<Spot>)
     let _ = spots.pop();
 }
 
-/// What a value is completed to, by its type and with the selections of a group, at the place to which the spots lead.
+/// Takes the last spot off, and hands out its name.
+fn leave_name(spots: &mut Vec<Spot>) -> Text
+    requires { (p : List path.Spot) × (name : List ℕ) × (spots.old.items ≡ p ++ (spot.Name name ∷ [])) }
+    ensures { (p : List path.Spot) → (name : List ℕ) →
+        spots.old.items ≡ p ++ (spot.Name name ∷ []) → (result ≡ name) × (spots.new.items ≡ p) }
+{
+    match spots.pop() {
+        Some(Spot::Name(name)) => name,
+        _ => unreachable!(),
+    }
+}
+
+/// What a value is completed to, by its type, whose name stands for this, and with the selections of a group, at the place to
+/// which the spots lead.
 #[cycle(complete)]
 pub fn complete<'a>(
     alloc: Global,
     collected: &mut Collections<'a>,
     value: &Json,
     of: &TypeRef,
+    base: Base,
     at: usize,
     spots: &mut Vec<Spot>,
 ) -> Result<Completed, Memory>
-    requires { at < length collected.old.groups }
+    requires there { at < length collected.old.groups }
+    requires based { base ≡ base_of collected.old.scope.schema of.now }
     ensures completed { IfOk result (λ c. Completes collected.old.scope of.now
         (selections_at collected.old.groups at) value.now spots.old.items c.value c.errors) }
     ensures back { OnOk result (spots.new.items ≡ spots.old.items) }
@@ -64,11 +91,22 @@ pub fn complete<'a>(
 {
     match value {
         Json::Null => complete_null(alloc, of, spots.as_slice()),
-        Json::List(items) => match list_type(of) {
-            Some(inner) => complete_list(alloc, collected, items.as_slice(), of, inner, at, spots),
-            None => complete_plain(alloc, collected.scope(), of, value, spots.as_slice()),
+        Json::List(items) => match collected.element_type(of, base) {
+            Some(inner) => {
+                complete_list(
+                    alloc,
+                    collected,
+                    items.as_slice(),
+                    of,
+                    inner,
+                    base,
+                    at,
+                    spots,
+                )
+            }
+            None => complete_plain(alloc, collected.scope(), of, base, value, spots.as_slice()),
         },
-        Json::Object(members) => match collected.scope().composite_type(of) {
+        Json::Object(members) => match composite_type(of, base) {
             Some(name) => complete_object(
                 alloc,
                 collected,
@@ -78,11 +116,25 @@ pub fn complete<'a>(
                 at,
                 spots,
             ),
-            None => complete_plain(alloc, collected.scope(), of, value, spots.as_slice()),
+            None => complete_plain(alloc, collected.scope(), of, base, value, spots.as_slice()),
         },
-        Json::Bool(_) => complete_plain(alloc, collected.scope(), of, value, spots.as_slice()),
-        Json::Number(_) => complete_plain(alloc, collected.scope(), of, value, spots.as_slice()),
-        Json::Str(_) => complete_plain(alloc, collected.scope(), of, value, spots.as_slice()),
+        Json::Bool(_) => complete_plain(
+            alloc,
+            collected.scope(),
+            of,
+            base,
+            value,
+            spots.as_slice(),
+        ),
+        Json::Number(_) => complete_plain(
+            alloc,
+            collected.scope(),
+            of,
+            base,
+            value,
+            spots.as_slice(),
+        ),
+        Json::Str(_) => complete_plain(alloc, collected.scope(), of, base, value, spots.as_slice()),
     }
 }
 
@@ -93,17 +145,21 @@ fn complete_list<'a>(
     items: &[Json],
     of: &TypeRef,
     inner: &TypeRef,
+    base: Base,
     at: usize,
     spots: &mut Vec<Spot>,
 ) -> Result<Completed, Memory>
-    requires { at < length collected.old.groups }
-    ensures settled { IfOk result (λ c. Settles collected.old.scope
+    requires there { at < length collected.old.groups }
+    requires based { base ≡ base_of collected.old.scope.schema inner.now }
+    ensures settled { IfOk result (λ c. IsLeft collected.old.scope
         (spec.elements inner.now items.now) (is_required of.now)
         (selections_at collected.old.groups at) spots.old.items c.value c.errors) }
     ensures back { OnOk result (spots.new.items ≡ spots.old.items) }
     ensures extends { OnOk result (Extends collected.old collected.new) }
 {
-    let Values { values, errors } = complete_items(alloc, collected, items, inner, at, spots)?;
+    let Values { values, errors } = complete_items(
+        alloc, collected, items, inner, base, at, spots,
+    )?;
     let value = kept(of, list_or_null(values));
     Ok(Completed { value, errors })
 }
@@ -115,22 +171,26 @@ fn complete_items<'a>(
     collected: &mut Collections<'a>,
     items: &[Json],
     inner: &TypeRef,
+    base: Base,
     at: usize,
     spots: &mut Vec<Spot>,
 ) -> Result<Values, Memory>
-    requires { at < length collected.old.groups }
+    requires there { at < length collected.old.groups }
+    requires based { base ≡ base_of collected.old.scope.schema inner.now }
     ensures elements { IfOk result (λ c. spec.Elements collected.old.scope inner.now
         (selections_at collected.old.groups at) spots.old.items 0 items.now c.values c.errors) }
     ensures back { OnOk result (spots.new.items ≡ spots.old.items) }
     ensures extends { OnOk result (Extends collected.old collected.new) }
 {
-    let mut values = Items::new(alloc);
+    let mut values = Items::from_vec(Vec::with_capacity(alloc, items.len())?);
     let mut errors: Items<ShapeError> = Items::new(alloc);
     for i in 0..items.len() {
         let Completed {
             value,
             errors: more,
-        } = complete_item(alloc, collected, &items[i], i as u64, inner, at, spots)?;
+        } = complete_item(
+            alloc, collected, &items[i], i as u64, inner, base, at, spots,
+        )?;
         errors.append(more)?;
         match value {
             Some(value) => values.push(value)?,
@@ -156,10 +216,12 @@ fn complete_item<'a>(
     item: &Json,
     index: u64,
     inner: &TypeRef,
+    base: Base,
     at: usize,
     spots: &mut Vec<Spot>,
 ) -> Result<Completed, Memory>
-    requires { at < length collected.old.groups }
+    requires there { at < length collected.old.groups }
+    requires based { base ≡ base_of collected.old.scope.schema inner.now }
     ensures completed { IfOk result (λ c. Completes collected.old.scope inner.now
         (selections_at collected.old.groups at) item.now
         (spots.old.items ++ (spot.Index index ∷ [])) c.value c.errors) }
@@ -167,7 +229,7 @@ fn complete_item<'a>(
     ensures extends { OnOk result (Extends collected.old collected.new) }
 {
     spots.push(Spot::Index(index))?;
-    let completed = complete(alloc, collected, item, inner, at, spots)?;
+    let completed = complete(alloc, collected, item, inner, base, at, spots)?;
     leave(spots);
     Ok(completed)
 }
@@ -184,7 +246,7 @@ fn complete_object<'a>(
     spots: &mut Vec<Spot>,
 ) -> Result<Completed, Memory>
     requires { at < length collected.old.groups }
-    ensures settled { IfOk result (λ c. Settles collected.old.scope
+    ensures settled { IfOk result (λ c. IsLeft collected.old.scope
         (spec.fields_rule members.now (spec.object_type collected.old.scope.schema name.now
         members.now)) (is_required of.now) (selections_at collected.old.groups at) spots.old.items
         c.value c.errors) }
@@ -208,7 +270,7 @@ fn complete_members<'a>(
     spots: &mut Vec<Spot>,
 ) -> Result<Completed, Memory>
     requires { at < length collected.old.groups }
-    ensures settled { IfOk result (λ c. Settles collected.old.scope
+    ensures settled { IfOk result (λ c. IsLeft collected.old.scope
         (spec.fields object.now members.now) (is_required of.now)
         (selections_at collected.old.groups at) spots.old.items c.value c.errors) }
     ensures back { OnOk result (spots.new.items ≡ spots.old.items) }
@@ -233,30 +295,31 @@ pub fn complete_fields<'a>(
     stretch: Stretch,
     spots: &mut Vec<Spot>,
 ) -> Result<Members, Memory>
-    requires { IsStretch stretch collected.old.groups }
-    ensures fields { IfOk result (λ c. spec.Fields collected.old.scope object.now members.now
+    requires within { IsStretch stretch collected.old.groups }
+    requires ruled { AreRuled collected.old.scope object.now stretch collected.old.groups
+        collected.old.rules }
+    ensures fields { IfOk result (λ c. spec.CompletesFields collected.old.scope object.now members.now
         spots.old.items (groups_in stretch collected.old.groups) c.members c.errors) }
     ensures back { OnOk result (spots.new.items ≡ spots.old.items) }
     ensures extends { OnOk result (Extends collected.old collected.new) }
 {
     let names = stretch.past.saturating_sub(stretch.first);
     let places = Places::of(alloc, members, names)?;
-    let mut made: Items<(Text, Json)> = Items::new(alloc);
+    let mut made: Items<(Text, Json)> = Items::from_vec(Vec::with_capacity(alloc, names.min(FEW))?);
     let mut errors: Items<ShapeError> = Items::new(alloc);
     for at in stretch.first..stretch.past {
-        let group = collected.group(at);
-        let key = group.key();
-        match field_rule(collected.scope(), object, group.name()) {
+        let key = collected.group(at).key();
+        match collected.rule(at) {
             FieldRule::TypeName => made.push((key.copy()?, Json::Str(object.copy()?)))?,
             FieldRule::Unknown => {}
-            FieldRule::Typed(of) => {
-                let Completed {
-                    value,
+            FieldRule::Typed(of, base) => {
+                let CompletedField {
+                    member,
                     errors: more,
-                } = complete_field(alloc, collected, members, &places, of, key, at, spots)?;
+                } = complete_field(alloc, collected, members, &places, of, base, key, at, spots)?;
                 errors.append(more)?;
-                match value {
-                    Some(value) => made.push((key.copy()?, value))?,
+                match member {
+                    Some(member) => made.push(member)?,
                     None => {
                         return Ok(Members {
                             members: None,
@@ -273,7 +336,8 @@ pub fn complete_fields<'a>(
     })
 }
 
-/// The member with the key of the group, or null where there is none, by the type of the field.
+/// The member of the answer for the member with the key of the group, or for null where there is none, by the type of the
+/// field.
 #[cycle(complete)]
 fn complete_field<'a>(
     alloc: Global,
@@ -281,22 +345,26 @@ fn complete_field<'a>(
     members: &[(Text, Json)],
     places: &Places,
     of: &TypeRef,
+    base: Base,
     key: &Text,
     at: usize,
     spots: &mut Vec<Spot>,
-) -> Result<Completed, Memory>
+) -> Result<CompletedField, Memory>
     requires there { at < length collected.old.groups }
+    requires based { base ≡ base_of collected.old.scope.schema of.now }
     requires indexed { IsIndexOf places.now.places members.now }
-    ensures completed { IfOk result (λ c. Completes collected.old.scope of.now
-        (selections_at collected.old.groups at) (or_null (named key.now members.now))
-        (spots.old.items ++ (spot.Name key.now ∷ [])) c.value c.errors) }
+    ensures completed { IfOk result (λ c. CompletesField collected.old.scope of.now
+        (selections_at collected.old.groups at) key.now members.now spots.old.items c.member
+        c.errors) }
     ensures back { OnOk result (spots.new.items ≡ spots.old.items) }
     ensures extends { OnOk result (Extends collected.old collected.new) }
 {
     spots.push(Spot::Name(key.copy()?))?;
-    let completed = complete_member(alloc, collected, members, places, of, key, at, spots)?;
-    leave(spots);
-    Ok(completed)
+    let Completed { value, errors } = complete_member(
+        alloc, collected, members, places, of, base, key, at, spots,
+    )?;
+    let member = member_of(leave_name(spots), value);
+    Ok(CompletedField { member, errors })
 }
 
 #[cycle(complete)]
@@ -306,11 +374,13 @@ fn complete_member<'a>(
     members: &[(Text, Json)],
     places: &Places,
     of: &TypeRef,
+    base: Base,
     key: &Text,
     at: usize,
     spots: &mut Vec<Spot>,
 ) -> Result<Completed, Memory>
     requires there { at < length collected.old.groups }
+    requires based { base ≡ base_of collected.old.scope.schema of.now }
     requires indexed { IsIndexOf places.now.places members.now }
     ensures completed { IfOk result (λ c. Completes collected.old.scope of.now
         (selections_at collected.old.groups at) (or_null (named key.now members.now))
@@ -320,7 +390,7 @@ fn complete_member<'a>(
 {
     let place = places.place(members, key);
     if place < members.len() {
-        return complete(alloc, collected, &members[place].1, of, at, spots);
+        return complete(alloc, collected, &members[place].1, of, base, at, spots);
     }
     complete_null(alloc, of, spots.as_slice())
 }

@@ -11,7 +11,7 @@ use json_value::Json;
 use std::alloc::Global;
 
 /// Of so few members, or for so few fields, a name is looked for one by one.
-const FEW: usize = 32;
+pub const FEW: usize = 32;
 
 /// The place of the first member of each name; None where names are looked for one by one.
 #[derive(Drop)]

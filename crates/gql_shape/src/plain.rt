@@ -6,8 +6,10 @@ ghost use Rattle.gql_terms.specs.declared.documents.Selection.{Selection};
 ghost use Rattle.gql_leaves.specs.Bares as bares;
 ghost use Rattle.gql_shape.specs.Terms as terms;
 ghost use Rattle.gql_shape.specs.Completing as spec;
-ghost use Rattle.gql_shape.specs.Completing.{Completes, Settles};
+ghost use Rattle.gql_shape.specs.Completing.{Completes, IsLeft};
+ghost use Rattle.gql_shape.specs.Kept as rules;
 
+use crate::base::Base;
 use crate::rule::is_leaf;
 use crate::scope::Scope;
 use crate::shaped::{Completed, ShapeCode, one_error};
@@ -55,7 +57,7 @@ pub fn complete_null(alloc: Global, of: &TypeRef, spots: &[Spot]) -> Result<Comp
 }
 
 pub fn wrong_kind(alloc: Global, of: &TypeRef, spots: &[Spot]) -> Result<Completed, Memory>
-    ensures { IfOk result (λ c. (s : terms.Scope) → (xs : List Selection) → Settles s spec.wrong
+    ensures { IfOk result (λ c. (s : terms.Scope) → (xs : List Selection) → IsLeft s spec.wrong
         (bares.is_required of.now) xs spots.now c.value c.errors) }
 {
     let errors = one_error(alloc, ShapeCode::WrongKind, spots)?;
@@ -65,7 +67,7 @@ pub fn wrong_kind(alloc: Global, of: &TypeRef, spots: &[Spot]) -> Result<Complet
 
 fn leaf_value(alloc: Global, of: &TypeRef, value: &Json) -> Result<Completed, Memory>
     ensures { IfOk result (λ c. (s : terms.Scope) → (xs : List Selection) → (p : List path.Spot) →
-        Settles s (spec.leaf value.now) (bares.is_required of.now) xs p c.value c.errors) }
+        IsLeft s (spec.leaf value.now) (bares.is_required of.now) xs p c.value c.errors) }
 {
     let value = kept(of, copy(alloc, value)?);
     Ok(Completed {
@@ -74,22 +76,24 @@ fn leaf_value(alloc: Global, of: &TypeRef, value: &Json) -> Result<Completed, Me
     })
 }
 
-/// What a leaf is completed to, or a value of another kind.
+/// What a leaf is completed to, or a value of another kind, by what the name in the type stands for.
 pub fn complete_plain<'a>(
     alloc: Global,
     scope: &Scope<'a>,
     of: &TypeRef,
+    base: Base,
     value: &Json,
     spots: &[Spot],
 ) -> Result<Completed, Memory>
-    ensures { IfOk result (λ c. (xs : List Selection) → Settles scope.now
+    requires { base ≡ rules.base_of scope.now.schema of.now }
+    ensures { IfOk result (λ c. (xs : List Selection) → IsLeft scope.now
         (spec.plain_rule scope.now.schema (bares.bare of.now) value.now) (bares.is_required of.now)
         xs spots.now c.value c.errors) }
 {
     match without_mark(of) {
         Bare::ListOf(_) => wrong_kind(alloc, of, spots),
         Bare::Named(name) => {
-            if is_leaf(scope, name, value) {
+            if is_leaf(scope, name, base, value) {
                 leaf_value(alloc, of, value)
             } else {
                 wrong_kind(alloc, of, spots)

@@ -36,6 +36,13 @@ pub struct Completed {
     pub errors: Items<ShapeError>,
 }
 
+/// The member that a field is completed to: none where it leaves no value.
+#[derive(Drop)]
+pub struct CompletedField {
+    pub member: Option<(Text, Json)>,
+    pub errors: Items<ShapeError>,
+}
+
 /// The elements of a list, or none where one of them leaves no value.
 #[derive(Drop)]
 pub struct Values {
