@@ -1,6 +1,6 @@
 -- No call is stuck. Nothing has to be decided for that: what can't be missing is said by a double negation.
 use Rattle.std.proofs.Common.{◌≡◌, ◌≢◌, ◌⊎◌, inl, inr, ℕ, zero, suc, ◌+◌, ◌*◌, ◌<◌, ◌≤◌, ◌==◌, Bool, true, false, List, [], ◌∷◌, ◌++◌, length, slice_get, get_or, Option, Some, None, refl, arith, subst}
-use Rattle.std.specs.Prelude.{MatchBool, IsSomeAnd, nat_le, is_some, min, ◌^◌, ◌-◌}
+use Rattle.std.specs.Prelude.{MatchBool, IsSomeAnd, nat_le, nat_lt, if◌then◌else◌, is_some, min, ◌^◌, ◌-◌}
 use Rattle.std.proofs.lemmas.Bool.Decides.{nat_tests}
 use Rattle.std.proofs.lemmas.Option.{slice_get_cases}
 use Rattle.cache_terms.specs.declared.keys.Key.{Key}
@@ -31,9 +31,9 @@ use Rattle.cache_model.specs.Legal.{IsLegal, IsDue, IsDueBy, due_after}
 use Rattle.cache_model.specs.State.{State, IsLegalState, begun, turned}
 use Rattle.cache_book.specs.Permits.{Pinned, Granted}
 use Rattle.cache_book.specs.Looking.{granted, Asked, AskedAll, LooksBy, bypass_mark, bypassed}
-use Rattle.cache_book.specs.Settling.{got_by, got_of, MayBy, IsOwed, Appends, Leaves, SettlesBy}
+use Rattle.cache_book.specs.Settling.{got_by, got_of, MayBy, IsOwed, Appends, Leaves, SettlesBy, probes_after}
 use Rattle.cache_book.specs.Voiding.{VoidsBy, turning, tally_of}
-use Rattle.cache_book.specs.Calls.{Call, Begin, Look, Settle, Invalidate, Tally, Begun, Looked, Closed, Voided, Tallied, OutOfMemory, MayCall, IsStuck}
+use Rattle.cache_book.specs.Calls.{Call, Begin, Look, Settle, Invalidate, Tally, Begun, Looked, Closed, Voided, Tallied, IsWantOfMemory, MayCall, IsStuck}
 use Rattle.cache_model.proofs.Sound.{sound_of}
 use Rattle.cache_book.proofs.Asking.{asked_legal, asked_room}
 use Rattle.cache_book.proofs.Stepping.{room_of_look}
@@ -119,30 +119,52 @@ covered_below J i key tags p covers = from (slice_get_cases J p) covers.1
     from (same, inl there) covered = there.1
     from (same, inr past) covered = absurd (subst (λ (o : Option Event). IsSomeAnd o (λ e. IsCover e key tags)) past.1 covered)
 
-due_stands : (limits : Limits) (J : List Event) (s : Started) (r : Report) → ((out : Outcome) → IsDue limits J s (got_by r out) out → ⊥) → ⊥
-due_stands limits J s report.Failed none = none outcome.Failed refl
+failed_found : outcome.Failed ≢ outcome.Memory
+failed_found e = absurd cc
+
+unstorable_found : (why : Why) → outcome.Unstorable why ≢ outcome.Memory
+unstorable_found why e = absurd cc
+
+over_found : (pinned current : ℕ) → outcome.Over pinned current ≢ outcome.Memory
+over_found pinned current e = absurd cc
+
+bypassed_found : outcome.Bypassed ≢ outcome.Memory
+bypassed_found e = absurd cc
+
+due_found : (cover : Option ℕ) (stored size limit : ℕ) → due_after cover stored size limit ≢ outcome.Memory
+due_found (Some p) stored size limit e = absurd cc
+due_found None stored size limit e = from (nat_lt limit (stored + size)) e
+  where
+    from : (b : Bool) → (if b then outcome.NoRoom stored size limit else outcome.Stored) ≡ outcome.Memory → ⊥
+    from true e' = absurd cc
+    from false e' = absurd cc
+
+due_stands : (limits : Limits) (J : List Event) (s : Started) (r : Report) → ((out : Outcome) → out ≢ outcome.Memory → IsDue limits J s (got_by r out) out → ⊥) → ⊥
+due_stands limits J s report.Failed none = none outcome.Failed failed_found refl
 due_stands limits J s (report.Got offer) none = by_why (why_of offer.marks offer.verdict offer.tags (is_some s.id)) none
   where
-    by_why : (why : Option Why) → ((out : Outcome) → IsDueBy why limits J s (got_of offer out) out → ⊥) → ⊥
-    by_why (Some why) stuck = stuck (outcome.Unstorable why) refl
-    by_why None stuck = last_stands (CoversAfter J s.at s.key offer.tags) (length J) (covered_below J s.at s.key offer.tags) (λ cover last. stuck (due_after cover (bytes J) (offer_size offer) limits.bytes) (cover, last, refl))
+    by_why : (why : Option Why) → ((out : Outcome) → out ≢ outcome.Memory → IsDueBy why limits J s (got_of offer out) out → ⊥) → ⊥
+    by_why (Some why) stuck = stuck (outcome.Unstorable why) (unstorable_found why) refl
+    by_why None stuck = last_stands (CoversAfter J s.at s.key offer.tags) (length J) (covered_below J s.at s.key offer.tags) (λ cover last.
+        stuck (due_after cover (bytes J) (offer_size offer) limits.bytes) (due_found cover (bytes J) (offer_size offer) limits.bytes) (cover, last, inl refl))
 
-settles_stand : (m : Mark) (old : State) (p : Granted) (r : Report) → MayBy m old p → ((c : Settled) (new : State) → SettlesBy m old p r c new → ⊥) → ⊥
+settles_stand : (m : Mark) (old : State) (p : Granted) (r : Report) → MayBy m old p → ((c : Settled) (new : State) → c.outcome ≢ outcome.Memory → SettlesBy m old p r c new → ⊥) → ⊥
 settles_stand (mark.Ticket t) old p r may none = by_epoch (p.epoch == old.epoch) refl none
   where
-    by_epoch : (b : Bool) → (p.epoch == old.epoch) ≡ b → ((c : Settled) (new : State) → MatchBool b (Appends old t p r c new) (Leaves old (outcome.Over p.epoch old.epoch) c new) → ⊥) → ⊥
+    by_epoch : (b : Bool) → (p.epoch == old.epoch) ≡ b → ((c : Settled) (new : State) → c.outcome ≢ outcome.Memory → MatchBool b (Appends old t p r c new) (Leaves old (outcome.Over p.epoch old.epoch) c new) → ⊥) → ⊥
     by_epoch true is stuck =
         let here : p.epoch ≡ old.epoch = grind (arith, nat_tests) in
         let owed : IsOwed old t p = may here in
-        due_stands old.limits old.journal owed.start r (λ out due. stuck
+        due_stands old.limits old.journal owed.start r (λ out found due. stuck
         (record { position = Some (length old.journal); outcome = out })
-        (record old { journal = old.journal ++ event.Settle p.who t (got_by r out) out ∷ [] })
+        (record old { journal = old.journal ++ event.Settle p.who t (got_by r out) out ∷ []; probes = probes_after old.probes r out })
+        found
         (record { start = owed.start; unsettled = owed.unsettled; due = due; position = refl; after = refl }))
-    by_epoch false is stuck = stuck (record { position = None; outcome = outcome.Over p.epoch old.epoch }) old (record { answer_is = refl; same = refl })
-settles_stand (mark.Over u v) old p r may none = none (record { position = None; outcome = outcome.Bypassed }) old (record { answer_is = refl; same = refl })
-settles_stand (mark.Full u v w z) old p r may none = none (record { position = None; outcome = outcome.Bypassed }) old (record { answer_is = refl; same = refl })
-settles_stand (mark.Wide u v) old p r may none = none (record { position = None; outcome = outcome.Bypassed }) old (record { answer_is = refl; same = refl })
-settles_stand mark.Retired old p r may none = none (record { position = None; outcome = outcome.Bypassed }) old (record { answer_is = refl; same = refl })
+    by_epoch false is stuck = stuck (record { position = None; outcome = outcome.Over p.epoch old.epoch }) old (over_found p.epoch old.epoch) (record { answer_is = refl; same = refl })
+settles_stand (mark.Over u v) old p r may none = none (record { position = None; outcome = outcome.Bypassed }) old bypassed_found (record { answer_is = refl; same = refl })
+settles_stand (mark.Full u v w z) old p r may none = none (record { position = None; outcome = outcome.Bypassed }) old bypassed_found (record { answer_is = refl; same = refl })
+settles_stand (mark.Wide u v) old p r may none = none (record { position = None; outcome = outcome.Bypassed }) old bypassed_found (record { answer_is = refl; same = refl })
+settles_stand mark.Retired old p r may none = none (record { position = None; outcome = outcome.Bypassed }) old bypassed_found (record { answer_is = refl; same = refl })
 
 -- AN INVALIDATION
 
@@ -159,26 +181,23 @@ voids_stand turn.Retired old who target none = none (record { epoch = old.epoch;
 
 -- ANY CALL
 
-begun_found : (p : Pinned) → Begun p ≢ OutOfMemory
-begun_found p e = absurd cc
+begun_found : (p : Pinned) → IsWantOfMemory (Begun p) → ⊥
+begun_found p e = e
 
-looked_found : (fs : List Found) → Looked fs ≢ OutOfMemory
-looked_found fs e = absurd cc
+looked_found : (fs : List Found) → IsWantOfMemory (Looked fs) → ⊥
+looked_found fs e = e
 
-closed_found : (c : Settled) → Closed c ≢ OutOfMemory
-closed_found c e = absurd cc
+voided_found : (v : voided.Voided) → IsWantOfMemory (Voided v) → ⊥
+voided_found v e = e
 
-voided_found : (v : voided.Voided) → Voided v ≢ OutOfMemory
-voided_found v e = absurd cc
-
-tallied_found : (t : tally.Tally) → Tallied t ≢ OutOfMemory
-tallied_found t e = absurd cc
+tallied_found : (t : tally.Tally) → IsWantOfMemory (Tallied t) → ⊥
+tallied_found t e = e
 
 pub not_stuck : (old : State) (call : Call) → IsLegalState old → MayCall old call → IsStuck old call → ⊥
 not_stuck old (Begin who) ok may stuck =
     let pass : Pinned = record { who = who; epoch = (begun old).epoch } in
     stuck (Begun pass) (begun old) (begun_found pass) (refl, refl)
 not_stuck old (Look pass id asks now) ok may stuck = looks_stand (bypass_mark old pass (length asks)) old pass id asks now refl ok (λ answers new h. stuck (Looked answers) new (looked_found answers) h)
-not_stuck old (Settle p r) ok may stuck = settles_stand p.mark old p r may.0 (λ c new h. stuck (Closed c) new (closed_found c) h)
+not_stuck old (Settle p r) ok may stuck = settles_stand p.mark old p r may.0 (λ c new found h. stuck (Closed c) new found h)
 not_stuck old (Invalidate who target) ok may stuck = voids_stand (turning old) old who target (λ v new h. stuck (Voided v) new (voided_found v) h)
 not_stuck old Tally ok may stuck = stuck (Tallied (tally_of old)) old (tallied_found (tally_of old)) (refl, refl)

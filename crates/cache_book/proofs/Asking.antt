@@ -1,5 +1,5 @@
 -- What an ask leaves of a legal journal.
-use Rattle.std.proofs.Common.{◌≡◌, ◌⊎◌, inl, inr, ℕ, ◌+◌, ◌<◌, ◌≤◌, Bool, true, false, List, [], ◌∷◌, ◌++◌, length, slice_get, Option, Some, None, refl, ap, sym, ◌∙◌, arith, subst, length-append, append_assoc}
+use Rattle.std.proofs.Common.{◌≡◌, ◌⊎◌, inl, inr, ℕ, ◌+◌, ◌<◌, ◌≤◌, Bool, true, false, List, [], ◌∷◌, ◌++◌, length, slice_get, Option, Some, None, refl, ap, sym, ◌∙◌, arith, subst, length-append, append_assoc, All}
 use Rattle.std.specs.Prelude.{if◌then◌else◌, Result, Ok, Err, IfOk, OnErr}
 use Rattle.std.proofs.lemmas.List.{append-nil}
 use Rattle.std.proofs.lemmas.List.Sums.{sum_by_push}
@@ -11,6 +11,8 @@ use Rattle.cache_book.specs.declared.found.Found.{Found}
 use Rattle.cache_book.specs.declared.found.Found.TheVariants as found
 use Rattle.cache_model.specs.Journal.{reserved, starts, is_start, is_pending, IsChoice}
 use Rattle.cache_model.specs.Legal.{IsLegal, IsNext, HasStart}
+use Rattle.std.proofs.lemmas.List.Elements.{All-cons, All-nil}
+use Rattle.book_tables.specs.Standing.{IsLookupOrStart, IsRegular}
 use Rattle.cache_book.specs.Permits.{Pinned}
 use Rattle.cache_book.specs.Looking.{Asked}
 use Rattle.cache_model.proofs.Growth.{each_push, slice_get_push, slice_get_before, slice_get_end, reserved_push}
@@ -100,3 +102,19 @@ pub answered_legal : {E : Type 0} (limits : Limits) (pass : Pinned) (id : Option
     → IsLegal limits J → length J + reserved J + 3 ≤ limits.events → IfOk r (λ a. Asked pass id now key J a K) → OnErr r (K ≡ J) → IsLegal limits K
 answered_legal limits pass id now key J K (Ok a) legal room ok err = asked_legal limits pass id now key J a K legal room ok
 answered_legal limits pass id now key J K (Err e) legal room ok err = subst (IsLegal limits) (sym err) legal
+
+-- the events that a miss begins with a Lookup are regular
+pub looked_regular : (limits : Limits) (J : List Event) (who : ℕ) (key : Key) (id : Option (List ℕ)) (now : ℕ) → IsLegal limits J → length J + reserved J + 3 ≤ limits.events → IsChoice J key id now None → IsRegular (J ++ Lookup who key id now None ∷ [])
+looked_regular limits J who key id now legal room choice =
+    let e : Event = Lookup who key id now None in
+    let next : IsNext limits J e = record { fits = choice; room = omega (arith, room, reserved_lookup J who key id now None, length-append J (e ∷ [])) } in
+    (limits, each_push limits J e legal.each next)
+
+-- an ask goes on with Lookups and Starts
+pub asked_quiet : (pass : Pinned) (id : Option (List ℕ)) (now : ℕ) (key : Key) (J : List Event) (answer : Found) (K : List Event) → Asked pass id now key J answer K → (added : List Event) × (K ≡ J ++ added) × All IsLookupOrStart added
+asked_quiet pass id now key J (found.Hit l s v m b) K h = (Lookup pass.who key id now (Some s) ∷ [], h.after, All-cons IsLookupOrStart (Lookup pass.who key id now (Some s)) [] tt (All-nil IsLookupOrStart))
+asked_quiet pass id now key J (found.Miss l p) K h =
+    let e : Event = Lookup pass.who key id now None in
+    let f : Event = Start pass.who (starts J) key id now in
+    (e ∷ f ∷ [], h.after, All-cons IsLookupOrStart e (f ∷ []) tt (All-cons IsLookupOrStart f [] tt (All-nil IsLookupOrStart)))
+asked_quiet pass id now key J (found.Bypass p) K h = ([], h.after ∙ sym (append-nil J), All-nil IsLookupOrStart)

@@ -25,9 +25,9 @@ use Rattle.cache_model.specs.Legal.{IsDue}
 use Rattle.cache_model.specs.State.{State, begun, turned}
 use Rattle.cache_book.specs.Permits.{Pinned, Granted}
 use Rattle.cache_book.specs.Looking.{Asked, AskedAll, IsHit, Looks, LooksBy, bypass_mark}
-use Rattle.cache_book.specs.Settling.{Settles, SettlesBy, Appends, Leaves, got_by, got_of}
+use Rattle.cache_book.specs.Settling.{Settles, SettlesBy, Appends, Leaves, got_by, got_of, probes_after}
 use Rattle.cache_book.specs.Voiding.{Voids, VoidsBy, AppendsVoid, turning, tally_of}
-use Rattle.cache_book.specs.Calls.{Call, Answer, Step, Begin, Look, Settle, Invalidate, Tally, Begun, Looked, Closed, Voided, Tallied, OutOfMemory}
+use Rattle.cache_book.specs.Calls.{Call, Answer, Step, Begin, Look, Settle, Invalidate, Tally, Begun, Looked, Closed, Voided, Tallied, OutOfMemory, IsWantOfMemory}
 use Rattle.cache_model.proofs.Unique.{choice_unique, count_unique, due_by_unique}
 
 hit_unique : (pass : Pinned) (id : Option (List ℕ)) (now : ℕ) (key : Key) (J : List Event) (l l' q q' : ℕ) (v v' : List ℕ) (m m' : ℕ) (b b' : Bool) (K K' : List Event)
@@ -72,33 +72,33 @@ looks_unique None old pass id asks now fs gs new other x y =
     let same = asks_unique pass id now asks old.journal fs gs new.journal other.journal (x.0) (y.0) in
     (same.0, x.1 ∙ ap (λ (j : List Event). record old { journal = j }) same.1 ∙ sym y.1)
 
-due_once : (r : Report) (limits : Limits) (J : List Event) (s : Started) (a b : Outcome) → IsDue limits J s (got_by r a) a → IsDue limits J s (got_by r b) b → a ≡ b
-due_once report.Failed limits J s a b x y = x ∙ sym y
-due_once (report.Got offer) limits J s a b x y = due_by_unique (why_of offer.marks offer.verdict offer.tags (is_some s.id)) limits J s (got_of offer a) (got_of offer b) a b refl refl x y
+due_once : (r : Report) (limits : Limits) (J : List Event) (s : Started) (a b : Outcome) → a ≢ outcome.Memory → b ≢ outcome.Memory → IsDue limits J s (got_by r a) a → IsDue limits J s (got_by r b) b → a ≡ b
+due_once report.Failed limits J s a b found also x y = x ∙ sym y
+due_once (report.Got offer) limits J s a b found also x y = due_by_unique (why_of offer.marks offer.verdict offer.tags (is_some s.id)) limits J s (got_of offer a) (got_of offer b) a b refl refl found also x y
 
-appends_unique : (old : State) (t : ℕ) (p : Granted) (r : Report) (a b : Settled) (new other : State) → Appends old t p r a new → Appends old t p r b other → (a ≡ b) × (new ≡ other)
-appends_unique old t p r a b new other x y =
+appends_unique : (old : State) (t : ℕ) (p : Granted) (r : Report) (a b : Settled) (new other : State) → a.outcome ≢ outcome.Memory → b.outcome ≢ outcome.Memory → Appends old t p r a new → Appends old t p r b other → (a ≡ b) × (new ≡ other)
+appends_unique old t p r a b new other found also x y =
     let start : x.start ≡ y.start = same_Some x.start y.start (sym x.unsettled.started ∙ y.unsettled.started) in
     let here : IsDue old.limits old.journal x.start (got_by r b.outcome) b.outcome = subst (λ (s : Started). IsDue old.limits old.journal s (got_by r b.outcome) b.outcome) (sym start) y.due in
-    let out : a.outcome ≡ b.outcome = due_once r old.limits old.journal x.start a.outcome b.outcome x.due here in
+    let out : a.outcome ≡ b.outcome = due_once r old.limits old.journal x.start a.outcome b.outcome found also x.due here in
     let place : a.position ≡ b.position = x.position ∙ sym y.position in
     let first : a ≡ record { position = b.position; outcome = a.outcome } = ap (λ (o : Option ℕ). record { position = o; outcome = a.outcome }) place in
     let second : record { position = b.position; outcome = a.outcome } ≡ b = ap (λ (o : Outcome). record { position = b.position; outcome = o }) out in
-    (first ∙ second, x.after ∙ ap (λ (o : Outcome). record old { journal = old.journal ++ event.Settle p.who t (got_by r o) o ∷ [] }) out ∙ sym y.after)
+    (first ∙ second, x.after ∙ ap (λ (o : Outcome). record old { journal = old.journal ++ event.Settle p.who t (got_by r o) o ∷ []; probes = probes_after old.probes r o }) out ∙ sym y.after)
 
 leaves_unique : (old : State) (out : Outcome) (a b : Settled) (new other : State) → Leaves old out a new → Leaves old out b other → (a ≡ b) × (new ≡ other)
 leaves_unique old out a b new other x y = (x.answer_is ∙ sym y.answer_is, x.same ∙ sym y.same)
 
-settles_unique : (m : Mark) (old : State) (p : Granted) (r : Report) (a b : Settled) (new other : State) → SettlesBy m old p r a new → SettlesBy m old p r b other → (a ≡ b) × (new ≡ other)
-settles_unique (mark.Ticket t) old p r a b new other x y = by_epoch (p.epoch == old.epoch) x y
+settles_unique : (m : Mark) (old : State) (p : Granted) (r : Report) (a b : Settled) (new other : State) → a.outcome ≢ outcome.Memory → b.outcome ≢ outcome.Memory → SettlesBy m old p r a new → SettlesBy m old p r b other → (a ≡ b) × (new ≡ other)
+settles_unique (mark.Ticket t) old p r a b new other found also x y = by_epoch (p.epoch == old.epoch) x y
   where
     by_epoch : (c : Bool) → MatchBool c (Appends old t p r a new) (Leaves old (outcome.Over p.epoch old.epoch) a new) → MatchBool c (Appends old t p r b other) (Leaves old (outcome.Over p.epoch old.epoch) b other) → (a ≡ b) × (new ≡ other)
-    by_epoch true x' y' = appends_unique old t p r a b new other x' y'
+    by_epoch true x' y' = appends_unique old t p r a b new other found also x' y'
     by_epoch false x' y' = leaves_unique old (outcome.Over p.epoch old.epoch) a b new other x' y'
-settles_unique (mark.Over u v) old p r a b new other x y = leaves_unique old outcome.Bypassed a b new other x y
-settles_unique (mark.Full u v w z) old p r a b new other x y = leaves_unique old outcome.Bypassed a b new other x y
-settles_unique (mark.Wide u v) old p r a b new other x y = leaves_unique old outcome.Bypassed a b new other x y
-settles_unique mark.Retired old p r a b new other x y = leaves_unique old outcome.Bypassed a b new other x y
+settles_unique (mark.Over u v) old p r a b new other found also x y = leaves_unique old outcome.Bypassed a b new other x y
+settles_unique (mark.Full u v w z) old p r a b new other found also x y = leaves_unique old outcome.Bypassed a b new other x y
+settles_unique (mark.Wide u v) old p r a b new other found also x y = leaves_unique old outcome.Bypassed a b new other x y
+settles_unique mark.Retired old p r a b new other found also x y = leaves_unique old outcome.Bypassed a b new other x y
 
 void_unique : (old : State) (who : ℕ) (target : Target) (how : Turned) (a b : voided.Voided) (new other : State) → AppendsVoid old who target how a new → AppendsVoid old who target how b other → (a ≡ b) × (new ≡ other)
 void_unique old who target how a b new other x y =
@@ -126,13 +126,13 @@ begin_answers old who (Voided v) new x = absurd x
 begin_answers old who (Tallied t) new x = absurd x
 begin_answers old who OutOfMemory new x = absurd x
 
-look_answers : (old : State) (pass : Pinned) (id : Option (List ℕ)) (asks : List Key) (now : ℕ) (a : Answer) (new : State) → a ≢ OutOfMemory → Step old (Look pass id asks now) a new → (fs : List Found) × (a ≡ Looked fs) × Looks old pass id asks now fs new
+look_answers : (old : State) (pass : Pinned) (id : Option (List ℕ)) (asks : List Key) (now : ℕ) (a : Answer) (new : State) → (IsWantOfMemory a → ⊥) → Step old (Look pass id asks now) a new → (fs : List Found) × (a ≡ Looked fs) × Looks old pass id asks now fs new
 look_answers old pass id asks now (Begun p) new ok x = absurd x
 look_answers old pass id asks now (Looked fs) new ok x = (fs, refl, x)
 look_answers old pass id asks now (Closed c) new ok x = absurd x
 look_answers old pass id asks now (Voided v) new ok x = absurd x
 look_answers old pass id asks now (Tallied t) new ok x = absurd x
-look_answers old pass id asks now OutOfMemory new ok x = absurd (ok refl)
+look_answers old pass id asks now OutOfMemory new ok x = absurd (ok tt)
 
 settle_answers : (old : State) (p : Granted) (r : Report) (a : Answer) (new : State) → Step old (Settle p r) a new → (c : Settled) × (a ≡ Closed c) × Settles old p r c new
 settle_answers old p r (Begun q) new x = absurd x
@@ -158,7 +158,7 @@ tally_answers old (Voided v) new x = absurd x
 tally_answers old (Tallied t) new x = (ap (λ u. Tallied u) x.0, x.1)
 tally_answers old OutOfMemory new x = absurd x
 
-pub step_unique : (old : State) (call : Call) (a b : Answer) (new other : State) → a ≢ OutOfMemory → b ≢ OutOfMemory → Step old call a new → Step old call b other → (a ≡ b) × (new ≡ other)
+pub step_unique : (old : State) (call : Call) (a b : Answer) (new other : State) → (IsWantOfMemory a → ⊥) → (IsWantOfMemory b → ⊥) → Step old call a new → Step old call b other → (a ≡ b) × (new ≡ other)
 step_unique old (Begin who) a b new other ok ok' x y =
     let p = begin_answers old who a new x in
     let q = begin_answers old who b other y in
@@ -171,7 +171,7 @@ step_unique old (Look pass id asks now) a b new other ok ok' x y =
 step_unique old (Settle p r) a b new other ok ok' x y =
     let u = settle_answers old p r a new x in
     let v = settle_answers old p r b other y in
-    let same = settles_unique p.mark old p r (u.0) (v.0) new other (u.2) (v.2) in
+    let same = settles_unique p.mark old p r (u.0) (v.0) new other (λ is. ok (subst IsWantOfMemory (sym u.1) is)) (λ is. ok' (subst IsWantOfMemory (sym v.1) is)) (u.2) (v.2) in
     (u.1 ∙ ap (λ (c : Settled). Closed c) same.0 ∙ sym v.1, same.1)
 step_unique old (Invalidate who target) a b new other ok ok' x y =
     let u = invalidate_answers old who target a new x in

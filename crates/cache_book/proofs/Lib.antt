@@ -1,9 +1,10 @@
-pub mod Spending
+pub mod Answered
 pub mod Asking
 pub mod Asks
-pub mod Owing
-pub mod Telling
 pub mod Determined
-pub mod Stepping
-pub mod Answered
+pub mod Oldest
 pub mod Outliving
+pub mod Owing
+pub mod Spending
+pub mod Stepping
+pub mod Telling

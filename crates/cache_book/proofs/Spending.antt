@@ -15,7 +15,7 @@ use Rattle.cache_model.specs.Journal.{Started, start_of, IsOpen}
 use Rattle.cache_model.specs.Legal.{IsLegal, IsDue, HasValueIfStored, HasRange}
 use Rattle.cache_model.specs.State.{State}
 use Rattle.cache_book.specs.Permits.{Granted}
-use Rattle.cache_book.specs.Settling.{IsOwedTo, MayBy, MaySettle, IsOwed, IsInRange, got_by, Appends, Leaves, SettlesBy, Settles}
+use Rattle.cache_book.specs.Settling.{IsOwedTo, MayBy, MaySettle, IsOwed, IsInRange, got_by, Appends, Leaves, SettlesBy, Settles, probes_after}
 use Rattle.cache_model.proofs.Growth.{reserved_settled}
 use Rattle.cache_model.proofs.Legality.{room_of, settled_legal}
 
@@ -56,13 +56,13 @@ settles_at m old p r answer new t is here h =
     subst (λ (n : Mark). SettlesBy n old p r answer new) (sym is) now
 
 -- a settle that appends is the step that is due
-pub settles_owed : (limits : Limits) (epoch : ℕ) (J : List Event) (p : Granted) (r : Report) (t : ℕ) (out : Outcome)
-    → p.mark ≡ mark.Ticket t → p.epoch ≡ epoch → MaySettle (record { limits = limits; epoch = epoch; journal = J }) p
+pub settles_owed : (limits : Limits) (epoch n : ℕ) (J : List Event) (p : Granted) (r : Report) (t : ℕ) (out : Outcome)
+    → p.mark ≡ mark.Ticket t → p.epoch ≡ epoch → MaySettle (record { limits = limits; epoch = epoch; journal = J; probes = n }) p
     → ((s : Started) → start_of J t ≡ Some s → IsDue limits J s (got_by r out) out)
-    → Settles (record { limits = limits; epoch = epoch; journal = J }) p r (record { position = Some (length J); outcome = out }) (record { limits = limits; epoch = epoch; journal = J ++ Settle p.who t (got_by r out) out ∷ [] })
-settles_owed limits epoch J p r t out is here may due =
-    let old : State = record { limits = limits; epoch = epoch; journal = J } in
-    let new : State = record { limits = limits; epoch = epoch; journal = J ++ Settle p.who t (got_by r out) out ∷ [] } in
+    → Settles (record { limits = limits; epoch = epoch; journal = J; probes = n }) p r (record { position = Some (length J); outcome = out }) (record { limits = limits; epoch = epoch; journal = J ++ Settle p.who t (got_by r out) out ∷ []; probes = probes_after n r out })
+settles_owed limits epoch n J p r t out is here may due =
+    let old : State = record { limits = limits; epoch = epoch; journal = J; probes = n } in
+    let new : State = record { limits = limits; epoch = epoch; journal = J ++ Settle p.who t (got_by r out) out ∷ []; probes = probes_after n r out } in
     let answer : Settled = record { position = Some (length J); outcome = out } in
     let owed : IsOwed old t p = owed_by old p t may is here in
     settles_at p.mark old p r answer new t is (eq-eqb p.epoch epoch here) (record { start = owed.start; unsettled = owed.unsettled; due = due owed.start owed.unsettled.started; position = refl; after = refl })

@@ -26,7 +26,7 @@ use Rattle.cache_model.specs.State.{State, IsWithinRanges, IsLegalState, opened,
 use Rattle.cache_model.specs.Story.{who_of, Adds, Follows, Without, By}
 use Rattle.cache_book.specs.Permits.{Pinned, Granted}
 use Rattle.cache_book.specs.Looking.{Asked, AskedAll, LooksBy, bypass_mark}
-use Rattle.cache_book.specs.Settling.{SettlesBy, Appends, Leaves, MaySettle, MayBy, IsOwed, IsOwedTo, IsInRange, got_by}
+use Rattle.cache_book.specs.Settling.{SettlesBy, Appends, Leaves, MaySettle, MayBy, IsOwed, IsOwedTo, IsInRange, got_by, probes_after}
 use Rattle.cache_book.specs.Voiding.{VoidsBy, AppendsVoid, turning}
 use Rattle.cache_book.specs.Shown.{AreNew, tickets_of}
 use Rattle.cache_book.specs.Calls.{Call, Answer, Step, Run, FoundMemory, MayCall, IsCaller, Begin, Look, Settle, Invalidate, Tally, Begun, Looked, Closed, Voided, Tallied, OutOfMemory}
@@ -61,8 +61,8 @@ by_itself : (a b : State) (k : ℕ) → b ≡ a → By a b k
 by_itself a b k same = subst (λ (s : State). By a s k) (sym same) (record { limits = refl; added = []; adds = adds_none a; all = All-nil (λ e. who_of e ≡ k) })
 
 -- one event of the caller is appended in the same epoch
-by_one : (a b : State) (e : Event) (k : ℕ) → who_of e ≡ k → b ≡ record a { journal = a.journal ++ e ∷ [] } → By a b k
-by_one a b e k of same = subst (λ (s : State). By a s k) (sym same) (record { limits = refl; added = e ∷ []; adds = inr (refl, refl); all = All-cons (λ x. who_of x ≡ k) e [] of (All-nil (λ x. who_of x ≡ k)) })
+by_one : (a b : State) (e : Event) (k n : ℕ) → who_of e ≡ k → b ≡ record a { journal = a.journal ++ e ∷ []; probes = n } → By a b k
+by_one a b e k n of same = subst (λ (s : State). By a s k) (sym same) (record { limits = refl; added = e ∷ []; adds = inr (refl, refl); all = All-cons (λ x. who_of x ≡ k) e [] of (All-nil (λ x. who_of x ≡ k)) })
 
 -- the epoch turns, and events of the caller follow
 by_turn : (a b : State) (ds : List Event) (k : ℕ) → All (λ e. who_of e ≡ k) ds → b ≡ record (turned a) { journal = ds } → By a b k
@@ -86,7 +86,7 @@ settles_by : (m : Mark) (old : State) (p : Granted) (r : Report) (c : Settled) (
 settles_by (mark.Ticket t) old p r c new h = by_epoch (p.epoch == old.epoch) h
   where
     by_epoch : (b : Bool) → MatchBool b (Appends old t p r c new) (Leaves old (outcome.Over p.epoch old.epoch) c new) → By old new p.who
-    by_epoch true h' = by_one old new (event.Settle p.who t (got_by r c.outcome) c.outcome) p.who refl h'.after
+    by_epoch true h' = by_one old new (event.Settle p.who t (got_by r c.outcome) c.outcome) p.who (probes_after old.probes r c.outcome) refl h'.after
     by_epoch false h' = by_itself old new p.who h'.same
 settles_by (mark.Over u v) old p r c new h = by_itself old new p.who h.same
 settles_by (mark.Full u v w z) old p r c new h = by_itself old new p.who h.same
@@ -94,7 +94,7 @@ settles_by (mark.Wide u v) old p r c new h = by_itself old new p.who h.same
 settles_by mark.Retired old p r c new h = by_itself old new p.who h.same
 
 voids_by : (how : Turned) (old : State) (who : ℕ) (target : Target) (v : voided.Voided) (new : State) → VoidsBy how old who target v new → By old new who
-voids_by turn.No old who target v new h = by_one old new (event.Invalidate who target v.count) who refl h.after
+voids_by turn.No old who target v new h = by_one old new (event.Invalidate who target v.count) who old.probes refl h.after
 voids_by (turn.Full n r l) old who target v new h = by_turn old new (event.Invalidate who target v.count ∷ []) who (All-cons (λ e. who_of e ≡ who) (event.Invalidate who target v.count) [] refl (All-nil (λ e. who_of e ≡ who))) h.after
 voids_by turn.Retired old who target v new h = by_itself old new who h.same
 

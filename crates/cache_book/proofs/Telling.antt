@@ -95,7 +95,7 @@ mark_is_none s pass n m is = from (s.epoch == 2 ^ 64 - 1) (not (pass.epoch == s.
     from false false false h = absurd (cc h)
 
 -- a front of a journal fits
-each_front : (limits : Limits) (J more : List Event) → EachFits limits (J ++ more) → EachFits limits J
+pub each_front : (limits : Limits) (J more : List Event) → EachFits limits (J ++ more) → EachFits limits J
 each_front limits J more each p e at =
     let within : p < length J = slice_get_within J p e at in
     subst (λ (K : List Event). IsNext limits K e) (take_before J more p (omega (arith, within))) (each p e (slice_get_before J more e p at))

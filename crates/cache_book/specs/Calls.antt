@@ -1,7 +1,8 @@
 -- Each call on a book is a step of one machine.
-use Rattle.std.specs.Prelude.{◌≡◌, ◌≢◌, ℕ, List, [], ◌∷◌, Option}
+use Rattle.std.specs.Prelude.{◌≡◌, ℕ, List, [], ◌∷◌, Option}
 use Rattle.cache_terms.specs.declared.keys.Key.{Key}
 use Rattle.cache_terms.specs.declared.keys.Target.{Target}
+use Rattle.cache_terms.specs.declared.events.Outcome.TheVariants as outcome
 use Rattle.cache_book.specs.declared.answers.Settled.{Settled}
 use Rattle.cache_book.specs.declared.answers.Voided as voided
 use Rattle.cache_book.specs.declared.answers.Tally as tally
@@ -54,9 +55,15 @@ abbrev pub MayCall : State → Call → Type 0
 MayCall old (Settle permit report) = MaySettle old permit × IsInRange report
 MayCall old other = Unit {0}
 
+-- the answer is want of memory: a look found none, or a settle found none for what would be stored
+abbrev pub IsWantOfMemory : Answer → Type 0
+IsWantOfMemory OutOfMemory = Unit {0}
+IsWantOfMemory (Closed settled) = settled.outcome ≡ outcome.Memory
+IsWantOfMemory other = ⊥
+
 -- no answer but want of memory can come
 abbrev pub IsStuck : State → Call → Type 0
-IsStuck old call = (answer : Answer) (new : State) → answer ≢ OutOfMemory → Step old call answer new → ⊥
+IsStuck old call = (answer : Answer) (new : State) → (IsWantOfMemory answer → ⊥) → Step old call answer new → ⊥
 
 -- the call does not spend the permit
 abbrev pub Spares : Call → Granted → Type 0
@@ -66,7 +73,7 @@ Spares other p = Unit {0}
 -- none of the answers is want of memory
 abbrev pub FoundMemory : List Answer → Type 0
 FoundMemory [] = Unit {0}
-FoundMemory (answer ∷ answers) = (answer ≢ OutOfMemory) × FoundMemory answers
+FoundMemory (answer ∷ answers) = (IsWantOfMemory answer → ⊥) × FoundMemory answers
 
 -- the calls, each made where it may be, have these answers one after another
 abbrev pub Run : State → List Call → List Answer → State → Type 0

@@ -1,5 +1,5 @@
 -- The laws of the machine. Each is the contract of a function of its name.
-use Rattle.std.specs.Prelude.{◌≡◌, ◌≢◌, ℕ, ◌≤◌, List, Option}
+use Rattle.std.specs.Prelude.{◌≡◌, ℕ, ◌≤◌, List, Option}
 use Rattle.cache_terms.specs.declared.keys.Key.{Key}
 use Rattle.cache_terms.specs.declared.events.Limits.{Limits}
 use Rattle.cache_book.specs.declared.found.Found.{Found}
@@ -9,7 +9,7 @@ use Rattle.cache_book.specs.Permits.{Pinned, Granted}
 use Rattle.cache_book.specs.Settling.{MaySettle}
 use Rattle.cache_book.specs.Owed.{AreOwed}
 use Rattle.cache_book.specs.Shown.{AreNew, tickets_of}
-use Rattle.cache_book.specs.Calls.{Call, Answer, Look, Looked, OutOfMemory, IsCaller, MayCall, Step, IsStuck, Spares, Run, FoundMemory}
+use Rattle.cache_book.specs.Calls.{Call, Answer, Look, Looked, IsWantOfMemory, IsCaller, MayCall, Step, IsStuck, Spares, Run, FoundMemory}
 
 -- a step from a legal state leaves a legal state
 abbrev pub StepIsLegal : Type 0
@@ -19,7 +19,7 @@ StepIsLegal = (old : State) (call : Call) (answer : Answer) (new : State)
 -- a step is a function of state and call, but for want of memory
 abbrev pub StepIsDetermined : Type 0
 StepIsDetermined = (old : State) (call : Call) (a b : Answer) (new other : State)
-    → a ≢ OutOfMemory → b ≢ OutOfMemory → Step old call a new → Step old call b other → (a ≡ b) × (new ≡ other)
+    → (IsWantOfMemory a → ⊥) → (IsWantOfMemory b → ⊥) → Step old call a new → Step old call b other → (a ≡ b) × (new ≡ other)
 
 -- a step adds events of its caller alone
 abbrev pub StepIsByItsCaller : Type 0

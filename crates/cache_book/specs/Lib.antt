@@ -6,9 +6,12 @@ pub use Rattle.cache_model.specs.Legal
 pub use Rattle.cache_model.specs.State
 pub use Rattle.cache_model.specs.Story
 pub use Rattle.cache_model.specs.Masked
+pub use Rattle.book_index.specs.Stamps
+pub use Rattle.book_index.specs.Telling
+pub use Rattle.book_tables.specs.Closing
 pub mod Permits
 pub mod Bounded
-pub mod Scan
+pub mod Stamping
 pub mod Settling
 pub mod Looking
 pub mod Voiding

@@ -37,7 +37,7 @@ pub record IsMiss (pass : Pinned) (id : Option (List ℕ)) (now : ℕ) (key : Ke
   pub after : K ≡ J ++ Lookup pass.who key id now None ∷ Start pass.who (starts J) key id now ∷ []
 
 -- a key that is too long goes past the journal
-pub record IsWide (pass : Pinned) (id : Option (List ℕ)) (key : Key) (J : List Event) (permit : Granted) (K : List Event) : Type 0 where
+pub record IsTooWide (pass : Pinned) (id : Option (List ℕ)) (key : Key) (J : List Event) (permit : Granted) (K : List Event) : Type 0 where
   pub wide : 16384 < key_bytes key
   pub permit_is : permit ≡ granted pass id (mark.Wide (min (key_bytes key) (2 ^ 64 - 1)) 16384) key
   pub after : K ≡ J
@@ -46,7 +46,7 @@ pub record IsWide (pass : Pinned) (id : Option (List ℕ)) (key : Key) (J : List
 abbrev pub Asked : Pinned → Option (List ℕ) → ℕ → Key → List Event → Found → List Event → Type 0
 Asked pass id now key J (found.Hit lookup stored value left_ms private) K = IsHit pass id now key J lookup stored value left_ms private K
 Asked pass id now key J (found.Miss lookup permit) K = IsMiss pass id now key J lookup permit K
-Asked pass id now key J (found.Bypass permit) K = IsWide pass id key J permit K
+Asked pass id now key J (found.Bypass permit) K = IsTooWide pass id key J permit K
 
 -- the asks have these answers, one after another
 abbrev pub AskedAll : Pinned → Option (List ℕ) → ℕ → List Key → List Event → List Found → List Event → Type 0

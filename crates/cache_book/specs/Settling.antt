@@ -1,6 +1,5 @@
 -- What a settle answers and leaves.
 use Rattle.std.specs.Prelude.{◌≡◌, ℕ, ◌≤◌, ◌==◌, List, [], ◌∷◌, ◌++◌, length, is_some, MatchBool, Option, Some, None}
-use Rattle.cache_terms.specs.declared.offers.Offer.{Offer}
 use Rattle.cache_terms.specs.declared.events.Got.{Got}
 use Rattle.cache_terms.specs.declared.events.Event.{Event}
 use Rattle.cache_terms.specs.declared.events.Event.TheVariants.{Settle}
@@ -9,23 +8,16 @@ use Rattle.cache_terms.specs.declared.events.Mark.TheVariants as mark
 use Rattle.cache_book.specs.declared.answers.Settled.{Settled}
 use Rattle.cache_terms.specs.declared.events.Outcome.{Outcome}
 use Rattle.cache_terms.specs.declared.events.Outcome.TheVariants as outcome
-use Rattle.cache_terms.specs.Offers.{offer_size}
 use Rattle.cache_book.specs.declared.permit.Report.{Report}
 use Rattle.cache_book.specs.declared.permit.Report.TheVariants as report
 use Rattle.cache_model.specs.Journal.{Started, IsOpen}
 use Rattle.cache_model.specs.Legal.{IsDue}
 use Rattle.cache_model.specs.State.{State}
+use Rattle.book_tables.specs.Closing as closing
+pub use Rattle.book_tables.specs.Closing.{value_kept, got_of}
 use Rattle.cache_book.specs.Permits.{Granted}
 
--- the value, where it is stored
-abbrev pub value_kept : Outcome → List ℕ → Option (List ℕ)
-value_kept outcome.Stored value = Some value
-value_kept out value = None
-
--- what the journal keeps of an offer
-abbrev pub got_of : Offer → Outcome → Got
-got_of offer out = record { value = value_kept out offer.value; size = offer_size offer; tags = offer.tags; verdict = offer.verdict; marks = offer.marks }
-
+-- what the journal keeps of a report
 abbrev pub got_by : Report → Outcome → Option Got
 got_by report.Failed out = None
 got_by (report.Got offer) out = Some (got_of offer out)
@@ -57,13 +49,18 @@ MayBy other s p = Unit {0}
 abbrev pub MaySettle : State → Granted → Type 0
 MaySettle s p = MayBy p.mark s p
 
+-- the probes so far, once a report is settled with the outcome
+abbrev pub probes_after : ℕ → Report → Outcome → ℕ
+probes_after probes report.Failed out = closing.probes_after probes None out
+probes_after probes (report.Got offer) out = closing.probes_after probes (Some offer) out
+
 -- one Settle is appended, with the outcome that is due
 pub record Appends (old : State) (ticket : ℕ) (p : Granted) (r : Report) (answer : Settled) (new : State) : Type 0 where
   pub start : Started
   pub unsettled : IsOpen old.journal ticket start
   pub due : IsDue old.limits old.journal start (got_by r answer.outcome) answer.outcome
   pub position : answer.position ≡ Some (length old.journal)
-  pub after : new ≡ record old { journal = old.journal ++ Settle p.who ticket (got_by r answer.outcome) answer.outcome ∷ [] }
+  pub after : new ≡ record old { journal = old.journal ++ Settle p.who ticket (got_by r answer.outcome) answer.outcome ∷ []; probes = probes_after old.probes r answer.outcome }
 
 -- nothing is appended
 pub record Leaves (old : State) (out : Outcome) (answer : Settled) (new : State) : Type 0 where

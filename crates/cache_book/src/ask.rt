@@ -1,40 +1,26 @@
 ghost use Rattle.std.specs.Prelude.{◌≡◌, ◌+◌, ◌*◌, ◌<◌, ◌≤◌, ℕ, length, take, vec_capacity, IfOk};
-ghost use Rattle.std.specs.Prelude.{IfSome, OnErr, Some, None, Option};
+ghost use Rattle.std.specs.Prelude.{[], ◌∷◌, ◌++◌, OnErr, Some, None, Option};
 ghost use Rattle.std.specs.Option.{option_copied};
 ghost use Rattle.cache_terms.specs.Keys.{key_bytes};
 ghost use Rattle.cache_model.specs.Journal.{reserved, IsChoice};
-ghost use Rattle.cache_model.specs.Legal.{IsLegal};
+ghost use Rattle.cache_terms.specs.declared.events.Event.TheVariants.{Lookup};
 ghost use Rattle.cache_model.specs.Soundness.{IsSound};
-ghost use Rattle.cache_book.specs.Bounded.{in_epoch, KeepsOpen};
+ghost use Rattle.cache_book.specs.Bounded.{in_epoch, KeepsOpen, WentOn};
 ghost use Rattle.cache_book.specs.Looking.{Asked, AskedAll, granted, bypassed, bypass_mark};
 ghost use Rattle.cache_book.specs.Owed.{AreOwed};
-ghost use Rattle.cache_book.specs.Scan.{IsGoodAt};
+ghost use Rattle.book_tables.specs.Refs.{IsGoodAt};
+ghost use Rattle.book_tables.specs.Standing.{StandsFor, IsRegular};
 ghost use Rattle.cache_book.specs.Shown.{AreNew, tickets_of, AreChosen};
 
 use crate::journal::Journal;
-use crate::scan::{kept_at, reserved_of, served, starts_of};
 use crate::{Found, Pass, Permit};
+use book_tables::Tables;
 use cache_terms::{Event, Key, Mark};
 use flow_base::{Memory, Text};
 use std::alloc::Global;
 
 /// The longest key that is kept.
 const WIDEST: u64 = 16384;
-
-/// The position that is chosen for a key and an id: the caller's own piece, or else the public one.
-pub fn chosen(events: &[Event], key: &Key, id: Option<&Text>, now: u64) -> Option<usize>
-    requires { IsSound events.now }
-    ensures choice { IsChoice events.now key.now (option_copied id.entry) now result }
-    ensures kept { IfSome result (IsGoodAt events.now now) }
-{
-    match id {
-        None => served(events, key, None, now),
-        Some(_) => match served(events, key, id, now) {
-            Some(at) => Some(at),
-            None => served(events, key, None, now),
-        },
-    }
-}
 
 fn copy_id(id: Option<&Text>) -> Result<Option<Text>, Memory>
     ensures { IfOk result (λ copy. copy ≡ option_copied id.entry) }
@@ -61,6 +47,7 @@ fn permit_for(pass: Pass, id: Option<&Text>, mark: Mark, key: Key) -> Permit
 /// Answers an ask for which nothing can be chosen.
 fn miss(
     events: &mut Vec<Event>,
+    tables: &mut Tables,
     pass: Pass,
     id: Option<&Text>,
     now: u64,
@@ -69,13 +56,19 @@ fn miss(
     requires room { length events.old.items + 2 ≤ vec_capacity events.old }
     requires narrow { key_bytes key ≤ 16384 }
     requires choice { IsChoice events.old.items key (option_copied id) now None }
+    requires stands { StandsFor tables.old events.old.items }
+    requires regular { IsRegular
+        (events.old.items ++ Lookup pass.who key (option_copied id) now None ∷ []) }
+    requires slots { length events.old.items + 2 ≤ tables.old.stamps.limit }
     ensures ok { IfOk result (λ answer.
         Asked pass (option_copied id.entry) now key events.old.items answer events.new.items) }
     ensures err { OnErr result (events.new.items ≡ events.old.items) }
     ensures capacity { vec_capacity events.old ≤ vec_capacity events.new }
+    ensures stands { StandsFor tables.new events.new.items }
+    ensures stamps { tables.new.stamps ≡ tables.old.stamps }
 {
     let lookup = events.len() as u64;
-    let ticket = starts_of(events);
+    let ticket = tables.starts();
     let who = pass.who();
     let looked = Event::Lookup {
         who,
@@ -92,6 +85,7 @@ fn miss(
         now,
     };
     events.push(looked).unwrap();
+    tables.note_start(events);
     events.push(started).unwrap();
     Ok(Found::Miss {
         lookup,
@@ -102,6 +96,7 @@ fn miss(
 /// Answers an ask by the piece that is chosen.
 fn hit(
     events: &mut Vec<Event>,
+    tables: &Tables,
     pass: Pass,
     id: Option<&Text>,
     now: u64,
@@ -113,12 +108,15 @@ fn hit(
     requires narrow { key_bytes key ≤ 16384 }
     requires choice { IsChoice events.old.items key (option_copied id) now (Some at) }
     requires kept { IsGoodAt events.old.items now at }
+    requires stands { StandsFor tables.now events.old.items }
+    requires regular { IsRegular events.old.items }
     ensures ok { IfOk result (λ answer.
         Asked pass (option_copied id.entry) now key events.old.items answer events.new.items) }
     ensures err { OnErr result (events.new.items ≡ events.old.items) }
     ensures capacity { vec_capacity events.old ≤ vec_capacity events.new }
+    ensures stands { StandsFor tables.now events.new.items }
 {
-    let kept = kept_at(events, at).unwrap();
+    let kept = tables.kept(events, at).unwrap();
     let left_ms = kept.remaining(now).unwrap();
     let private = kept.got.verdict.private;
     let value = kept.got.value.as_ref().unwrap().copy()?;
@@ -146,6 +144,7 @@ impl Journal {
         requires room { length self.old.events + reserved self.old.events + 3
             ≤ self.old.limits.events }
         ensures limits { self.new.limits ≡ self.old.limits }
+        ensures probes { self.new.probes ≡ self.old.probes }
         ensures ok { IfOk result (λ answer.
             Asked pass (option_copied id.entry) now key self.old.events answer self.new.events) }
         ensures err { OnErr result (self.new.events ≡ self.old.events) }
@@ -160,19 +159,21 @@ impl Journal {
                 permit: permit_for(pass, id, mark, key),
             });
         }
-        match chosen(&self.events, &key, id, now) {
-            Some(at) => hit(&mut self.events, pass, id, now, key, at),
-            None => miss(&mut self.events, pass, id, now, key),
+        match self.tables.chosen(&self.events, &key, id, now) {
+            Some(at) => hit(&mut self.events, &self.tables, pass, id, now, key, at),
+            None => miss(&mut self.events, &mut self.tables, pass, id, now, key),
         }
     }
 
-    /// Takes away what stands past a front that is legal.
-    fn truncate(&mut self, len: usize)
-        requires { IsLegal self.old.limits (take len self.old.events) }
+    /// Goes back to a front from which the events went on with Lookups and Starts alone.
+    fn roll_back(&mut self, len: usize, started: usize)
+        requires { WentOn self.old.limits self.old.events len started }
         ensures limits { self.new.limits ≡ self.old.limits }
+        ensures probes { self.new.probes ≡ self.old.probes }
         ensures front { self.new.events ≡ take len self.old.events }
     {
         self.events.truncate(len);
+        self.tables.roll_back(started);
     }
 
     /// Answers the asks in order, or leaves the events as they were.
@@ -186,6 +187,7 @@ impl Journal {
         requires room { length self.old.events + reserved self.old.events + 3 * length asks.items
             ≤ self.old.limits.events }
         ensures limits { self.new.limits ≡ self.old.limits }
+        ensures probes { self.new.probes ≡ self.old.probes }
         ensures ok { IfOk result (λ answers.
             AskedAll pass (option_copied id.entry) now asks.items
             self.old.events answers.items self.new.events) }
@@ -199,12 +201,13 @@ impl Journal {
             AreChosen self.old.events (option_copied id.entry) now asks.items answers.items) }
     {
         let before = self.events.len();
+        let started = self.tables.starts() as usize;
         let mut answers = Vec::with_capacity(*self.events.allocator(), asks.len())?;
         'asks: for key in asks {
             match self.ask(pass, id, now, key) {
                 Ok(answer) => answers.push(answer).unwrap(),
                 Err(memory) => {
-                    self.truncate(before);
+                    self.roll_back(before, started);
                     discard(answers);
                     return Err(memory);
                 }
@@ -227,7 +230,7 @@ impl Journal {
             });
         }
         let length = self.events.len() as u64;
-        let reserved = reserved_of(&self.events);
+        let reserved = self.reserved();
         let needed = (asks as u64).saturating_mul(3);
         if length.saturating_add(reserved).saturating_add(needed) > self.limits.events {
             return Some(Mark::Full {

@@ -1,7 +1,8 @@
 use crate::ask::bypass_all;
 use crate::journal::Journal;
 use crate::{Fill, Found, Notice, Pass, Permit, Settled, Tally, Turned, Voided};
-use cache_terms::{Event, Key, Limits, Mark, Outcome, Target};
+use book_index::Stamps;
+use cache_terms::{Event, Key, Limits, Mark, Outcome};
 use flow_base::{Memory, Text};
 use std::alloc::Global;
 use std::marker::Model;
@@ -26,7 +27,10 @@ impl Model for Book {
 impl Book {
     ghost use Rattle.std.specs.Prelude.{◌≡◌, ◌+◌, ◌-◌, ◌^◌, ◌<◌, ◌≤◌, length, IfOk, OnErr};
     ghost use Rattle.std.specs.Option.{option_copied};
-    ghost use Rattle.cache_model.specs.Journal.{reserved};
+    ghost use Rattle.std.specs.FinMap as map;
+    ghost use Rattle.cache_model.specs.Journal.{Started, reserved};
+    ghost use Rattle.book_index.specs.Telling.{StampsTell, voids_above};
+    ghost use Rattle.cache_book.specs.Stamping.{IsOldestOpen};
     ghost use Rattle.cache_model.specs.Legal.{IsLegal};
     ghost use Rattle.cache_model.specs.State.{State, IsWithinRanges, opened, turned};
     ghost use Rattle.cache_book.specs.Shown.{AreNew, tickets_of, AreChosen};
@@ -77,7 +81,8 @@ impl Book {
         Pass::new(who, self.epoch)
     }
 
-    /// Spends a permit. Where its ticket is open, the outcome that is due is appended. Takes no memory.
+    /// Spends a permit. Where its ticket is open, the outcome that is due is appended; where that is Stored and no
+    /// memory is found, it is Memory. Never refused, and else takes no memory.
     pub fn settle(&mut self, fill: Fill) -> Settled
         requires may { MaySettle self.old fill.permit }
         requires range { IsInRange fill.report }
@@ -149,9 +154,8 @@ impl Book {
         ensures keeps { KeepsEarlier self.old self.new }
         ensures step { Step self.old (Invalidate who notice) (machine.Voided result) self.new }
     {
-        let target = notice.into_target();
         match self.journal.turning(self.epoch) {
-            Turned::No => self.void(who, target, Turned::No),
+            Turned::No => self.void(who, notice, Turned::No),
             Turned::Full {
                 length,
                 reserved,
@@ -163,7 +167,7 @@ impl Book {
                     reserved,
                     limit,
                 };
-                self.void(who, target, full)
+                self.void(who, notice, full)
             }
             Turned::Retired => Voided {
                 epoch: self.epoch,
@@ -175,13 +179,13 @@ impl Book {
     }
 
     /// Appends an Invalidate, and says where it stands and what it covers.
-    fn void(&mut self, who: u32, target: Target, turned: Turned) -> Voided
+    fn void(&mut self, who: u32, notice: Notice, turned: Turned) -> Voided
         requires { length self.old.journal + reserved self.old.journal + 1
             ≤ self.old.limits.events }
-        ensures { AppendsVoid self.old who target turned result self.new }
+        ensures { AppendsVoid self.old who notice turned result self.new }
     {
         let position = self.journal.len();
-        let count = self.journal.append_void(who, target);
+        let count = self.journal.append_void(who, notice);
         Voided {
             epoch: self.epoch,
             position,
@@ -209,5 +213,18 @@ impl Book {
         ensures ranges { IsWithinRanges self.now.limits }
     {
         self.journal.events()
+    }
+
+    /// The stamps of the invalidations that a settle may still have to heed: each target that was invalidated after the
+    /// oldest open Start, at its last such position, and no other. None where no ticket is open. Takes no memory.
+    pub fn stamps(&self) -> &Stamps
+        ensures probes { result.now.probes ≡ self.now.probes }
+        ensures none { reserved self.now.journal ≡ 0 → result.now.stamps ≡ map.empty }
+        ensures told { (s : Started) → IsOldestOpen self.now.journal s
+            → StampsTell self.now.journal s.at result.now.stamps }
+        ensures few { (s : Started) → IsOldestOpen self.now.journal s
+            → map.len result.now.stamps ≤ voids_above self.now.journal s.at }
+    {
+        self.journal.stamps()
     }
 }

@@ -1,8 +1,8 @@
 //! The cache: a journal of events, and the calls that append to it.
 //!
-//! It is the plainest representation, a list of events: what is held, chosen or due is found by going over the
-//! list. Each ask of a look, and each other call, takes time in the square of the number of events at most, but
-//! for `invalidate`, whose count takes the cube.
+//! What is held, chosen or due is found in tables beside the journal, which stand for it: no call goes through the
+//! journal. An ask of a look costs the logarithm of what is kept, a settle that for each of its tags, and an
+//! invalidation that for each piece which it covers.
 #![tactic(auto)]
 
 mod answers;
@@ -10,12 +10,11 @@ mod ask;
 mod book;
 mod found;
 mod journal;
-mod judge;
 mod laws;
 mod notice;
 mod pass;
 mod permit;
-mod scan;
+mod settling;
 mod voiding;
 
 pub use answers::{Settled, Tally, Turned, Voided};

@@ -160,6 +160,7 @@ fn missed<R: Abort + AllocGlobal>(
 fn begun<R: Abort + AllocGlobal>(rt: &R, book: &Book, permit: Permit) -> Permit
     requires { MaySettle book.now permit }
     ensures may { MaySettle book.now result }
+    ensures mark { result.mark ≡ permit.mark }
     ensures begun { result.epoch ≤ book.now.epoch }
 {
     if has_begun(book, &permit) {
@@ -316,6 +317,38 @@ fn a_tag_learnt_late<R: Abort + AllocGlobal>(rt: &R) {
     let permit = missed(rt, &book, found, 4, 1);
     let report = got(rt, 60, 0, false, &["hot", "x"], "v");
     settle(rt, &mut book, permit, report, 6, Outcome::Stored);
+}
+
+/// Stamps are kept for the open tickets alone, and a settle asks them once for each of its targets.
+fn stamps_for_open_tickets<R: Abort + AllocGlobal>(rt: &R) {
+    let mut book = Book::open(rt.alloc(), WIDE, 0).expect(rt, "memory");
+    let hot = Target::Tag(text(rt, "a"), text(rt, "hot"));
+    let whole = Target::Subgraph(text(rt, "b"));
+    void(rt, &mut book, 2, &hot, not_turned(0, 0));
+    tells(rt, &book, 0, 0);
+    let pass = book.begin(1);
+    let asked = key(rt, "a", "T", "r1");
+    let other = key(rt, "a", "T", "r2");
+    let report = got(rt, 60, 0, false, &["hot", "x"], "v");
+    let found = look(rt, &mut book, &pass, None, 0, &asked);
+    let earlier = missed(rt, &book, found, 1, 0);
+    void(rt, &mut book, 2, &hot, not_turned(3, 0));
+    let earlier = begun(rt, &book, earlier);
+    void(rt, &mut book, 2, &hot, not_turned(4, 0));
+    let found = look(rt, &mut book, &pass, None, 0, &other);
+    let later = missed(rt, &book, found, 5, 1);
+    let earlier = begun(rt, &book, earlier);
+    void(rt, &mut book, 2, &whole, not_turned(7, 0));
+    settle(rt, &mut book, earlier, report, 8, Outcome::Void(4));
+    tells(rt, &book, 1, 4);
+    settle(rt, &mut book, later, Report::Failed, 9, Outcome::Failed);
+    tells(rt, &book, 0, 4);
+}
+
+/// Checks how many stamps there are, and how many probes of them were made.
+fn tells<R: Abort + AllocGlobal>(rt: &R, book: &Book, count: u64, probes: u64) {
+    let stamps = book.stamps();
+    assert!(rt; stamps.count() == count && stamps.probes() == probes);
 }
 
 fn two_tickets_on_one_key<R: Abort + AllocGlobal>(rt: &R) {
@@ -609,6 +642,7 @@ fn the_last_epoch<R: Abort + AllocGlobal>(rt: &R) {
 fn worked_examples(rt: HostRuntime) {
     a_miss_a_fill_a_hit(&rt);
     a_tag_learnt_late(&rt);
+    stamps_for_open_tickets(&rt);
     two_tickets_on_one_key(&rt);
     one_type_in_two_subgraphs(&rt);
     the_boundary_of_freshness(&rt);

@@ -4,10 +4,9 @@ ghost use Rattle.cache_model.specs.Journal.{reserved, IsHeldUnder, IsCount};
 ghost use Rattle.cache_book.specs.Bounded.{in_epoch};
 ghost use Rattle.cache_book.specs.Voiding.{turning};
 
-use crate::Turned;
 use crate::journal::Journal;
-use crate::scan::{count_held, reserved_of};
-use cache_terms::{Event, Target};
+use crate::{Notice, Turned};
+use cache_terms::Event;
 
 impl Journal {
     /// Whether an invalidation turns the epoch.
@@ -18,7 +17,7 @@ impl Journal {
             return Turned::Retired;
         }
         let length = self.events.len() as u64;
-        let reserved = reserved_of(&self.events);
+        let reserved = self.reserved();
         if length.saturating_add(reserved).saturating_add(1) > self.limits.events {
             return Turned::Full {
                 length,
@@ -30,15 +29,17 @@ impl Journal {
     }
 
     /// Appends an Invalidate, which needs the room for one event, and counts what it covers.
-    pub fn append_void(&mut self, who: u32, target: Target) -> u64
+    pub fn append_void(&mut self, who: u32, notice: Notice) -> u64
         requires free { length self.old.events + reserved self.old.events + 1
             ≤ self.old.limits.events }
         ensures limits { self.new.limits ≡ self.old.limits }
-        ensures after { self.new.events ≡ self.old.events ++ Invalidate who target result ∷ [] }
-        ensures count { IsCount (IsHeldUnder self.old.events target)
+        ensures probes { self.new.probes ≡ self.old.probes }
+        ensures after { self.new.events ≡ self.old.events ++ Invalidate who notice result ∷ [] }
+        ensures count { IsCount (IsHeldUnder self.old.events notice)
             (length self.old.events) result }
     {
-        let count = count_held(&self.events, &target);
+        let (target, stamp) = notice.into_targets();
+        let count = self.tables.void(&self.events, stamp);
         let void = Event::Invalidate { who, target, count };
         self.events.push(void).unwrap();
         count

@@ -29,7 +29,10 @@ stored_within None stored size limit h = small (nat_lt limit (stored + size)) re
 
 stored_within_by : (why : Option Why) (limits : Limits) (J : List Event) (s : Started) (got : Got) → IsDueBy why limits J s got outcome.Stored → bytes J + got.size ≤ limits.bytes
 stored_within_by (Some w) limits J s got due = absurd (cc due)
-stored_within_by None limits J s got due = stored_within (due.0) (bytes J) got.size limits.bytes (due.2)
+stored_within_by None limits J s got due = elim due.2 [
+  | inl same ↦ stored_within (due.0) (bytes J) got.size limits.bytes same
+  | inr other ↦ absurd (cc other.1)
+]
 
 pub event_within : (limits : Limits) (J : List Event) (e : Event) → Fits limits J e → bytes J ≤ limits.bytes → bytes J + stored_size e ≤ limits.bytes
 event_within limits J (Lookup who key id now hit) fits le = omega arith

@@ -1,15 +1,16 @@
 -- What a journal says is one thing: a choice, an outcome, a count.
-use Rattle.std.proofs.Common.{◌≡◌, ◌⊎◌, inl, inr, ℕ, zero, suc, ◌+◌, ◌<◌, List, Option, Some, None, refl, ap, sym, ◌∙◌, arith, subst}
+use Rattle.std.proofs.Common.{◌≡◌, ◌≢◌, ◌⊎◌, inl, inr, ℕ, zero, suc, ◌+◌, ◌<◌, List, Option, Some, None, refl, ap, sym, ◌∙◌, arith, subst}
 use Rattle.std.specs.Prelude.{IsSomeAnd, is_some}
 use Rattle.cache_terms.specs.declared.keys.Key.{Key}
 use Rattle.cache_terms.specs.declared.events.Got.{Got}
 use Rattle.cache_terms.specs.declared.events.Limits.{Limits}
 use Rattle.cache_terms.specs.declared.events.Event.{Event}
 use Rattle.cache_terms.specs.declared.events.Outcome.{Outcome}
+use Rattle.cache_terms.specs.declared.events.Outcome.TheVariants as outcome
 use Rattle.cache_terms.specs.declared.reasons.Why.{Why}
 use Rattle.cache_terms.specs.Offers.{why_of}
 use Rattle.cache_model.specs.Journal.{Started, bytes, IsLast, IsCount, IsLastCover, Serves, IsServed, IsChoice}
-use Rattle.cache_model.specs.Legal.{IsDue, IsDueBy, due_after}
+use Rattle.cache_model.specs.Legal.{IsDue, IsDueBy, IsOrMemory, due_after}
 
 compared : (q r : ℕ) → (q < r) ⊎ ((r < q) ⊎ (q ≡ r))
 compared q r = grind arith
@@ -64,13 +65,20 @@ choice_unique J key (Some id) now a b (inl x) (inr y) = absurd (own_not_none J k
 choice_unique J key (Some id) now a b (inr x) (inl y) = absurd (own_not_none J key (Some id) now b y x.0)
 choice_unique J key (Some id) now a b (inr x) (inr y) = is_served_unique J key None now a b x.1 y.1
 
--- so is what is due, for two records of one offer
-pub due_by_unique : (why : Option Why) (limits : Limits) (J : List Event) (s : Started) (g h : Got) (a b : Outcome) → g.tags ≡ h.tags → g.size ≡ h.size → IsDueBy why limits J s g a → IsDueBy why limits J s h b → a ≡ b
-due_by_unique (Some why) limits J s g h a b tags size x y = x ∙ sym y
-due_by_unique None limits J s g h a b tags size x y =
-    let same = last_unique _ (x.0) (y.0) (subst (λ t. IsLastCover J s.at s.key t (x.0)) tags (x.1)) (y.1) in
-    x.2 ∙ ap (λ (c : Option ℕ). due_after c (bytes J) g.size limits.bytes) same ∙ ap (λ (n : ℕ). due_after (y.0) (bytes J) n limits.bytes) size ∙ sym y.2
+-- what is not want of memory is what is due
+due_itself : (due out : Outcome) → out ≢ outcome.Memory → IsOrMemory due out → out ≡ due
+due_itself due out found (inl same) = same
+due_itself due out found (inr other) = absurd (found other.1)
 
-pub due_unique : (limits : Limits) (J : List Event) (s : Started) (got : Option Got) (a b : Outcome) → IsDue limits J s got a → IsDue limits J s got b → a ≡ b
-due_unique limits J s None a b x y = x ∙ sym y
-due_unique limits J s (Some got) a b x y = due_by_unique (why_of got.marks got.verdict got.tags (is_some s.id)) limits J s got got a b refl refl x y
+-- so is what is due, for two records of one offer
+pub due_by_unique : (why : Option Why) (limits : Limits) (J : List Event) (s : Started) (g h : Got) (a b : Outcome) → g.tags ≡ h.tags → g.size ≡ h.size → a ≢ outcome.Memory → b ≢ outcome.Memory → IsDueBy why limits J s g a → IsDueBy why limits J s h b → a ≡ b
+due_by_unique (Some why) limits J s g h a b tags size found also x y = x ∙ sym y
+due_by_unique None limits J s g h a b tags size found also x y =
+    let same = last_unique _ (x.0) (y.0) (subst (λ t. IsLastCover J s.at s.key t (x.0)) tags (x.1)) (y.1) in
+    let first : a ≡ due_after (x.0) (bytes J) g.size limits.bytes = due_itself (due_after (x.0) (bytes J) g.size limits.bytes) a found x.2 in
+    let second : b ≡ due_after (y.0) (bytes J) h.size limits.bytes = due_itself (due_after (y.0) (bytes J) h.size limits.bytes) b also y.2 in
+    first ∙ ap (λ (c : Option ℕ). due_after c (bytes J) g.size limits.bytes) same ∙ ap (λ (n : ℕ). due_after (y.0) (bytes J) n limits.bytes) size ∙ sym second
+
+pub due_unique : (limits : Limits) (J : List Event) (s : Started) (got : Option Got) (a b : Outcome) → a ≢ outcome.Memory → b ≢ outcome.Memory → IsDue limits J s got a → IsDue limits J s got b → a ≡ b
+due_unique limits J s None a b found also x y = x ∙ sym y
+due_unique limits J s (Some got) a b found also x y = due_by_unique (why_of got.marks got.verdict got.tags (is_some s.id)) limits J s got got a b refl refl found also x y

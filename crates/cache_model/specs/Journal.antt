@@ -10,7 +10,7 @@ use Rattle.cache_terms.specs.declared.tags.Tags.{Tags}
 use Rattle.cache_terms.specs.declared.offers.Verdict.{Verdict}
 use Rattle.cache_terms.specs.declared.events.Got.{Got}
 use Rattle.cache_terms.specs.declared.events.Event.{Event}
-use Rattle.cache_terms.specs.declared.events.Event.TheVariants.{Lookup, Start, Settle, Invalidate}
+use Rattle.cache_terms.specs.declared.events.Event.TheVariants.{Start, Settle, Invalidate}
 use Rattle.cache_terms.specs.declared.events.Outcome.TheVariants as outcome
 use Rattle.cache_terms.specs.Keys.{Covers}
 

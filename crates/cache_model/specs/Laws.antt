@@ -6,6 +6,7 @@ use Rattle.cache_terms.specs.declared.events.Event.{Event}
 use Rattle.cache_terms.specs.declared.events.Got.{Got}
 use Rattle.cache_terms.specs.declared.events.Limits.{Limits}
 use Rattle.cache_terms.specs.declared.events.Outcome.{Outcome}
+use Rattle.cache_terms.specs.declared.events.Outcome.TheVariants as outcome
 use Rattle.cache_model.specs.Journal.{Started, bytes, reserved, IsChoice, IsCount, IsHeldUnder}
 use Rattle.cache_model.specs.Legal.{IsDue, IsLegal}
 use Rattle.cache_model.specs.Masked.{masked}
@@ -22,10 +23,10 @@ abbrev pub ChoiceIsMasked : Type 0
 ChoiceIsMasked = (J : List Event) (key : Key) (id : Option (List ℕ)) (now : ℕ) (hit : Option ℕ)
     → IsChoice J key id now hit ↔ IsChoice (masked J id) key id now hit
 
--- one outcome is due
+-- one outcome is due, but for want of memory
 abbrev pub OutcomeIsUnique : Type 0
 OutcomeIsUnique = (limits : Limits) (J : List Event) (s : Started) (got : Option Got) (a b : Outcome)
-    → IsDue limits J s got a → IsDue limits J s got b → a ≡ b
+    → a ≢ outcome.Memory → b ≢ outcome.Memory → IsDue limits J s got a → IsDue limits J s got b → a ≡ b
 
 -- an invalidation covers one number of held pieces
 abbrev pub CountIsUnique : Type 0

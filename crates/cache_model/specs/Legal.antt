@@ -1,5 +1,5 @@
 -- Which outcome is due to a fetch, and which journals are legal.
-use Rattle.std.specs.Prelude.{◌≡◌, ℕ, ◌+◌, ◌≤◌, true, nat_lt, if◌then◌else◌, List, [], ◌∷◌, ◌++◌, length, take, slice_get, is_some, Option, Some, None}
+use Rattle.std.specs.Prelude.{◌≡◌, ◌⊎◌, ℕ, ◌+◌, ◌≤◌, true, nat_lt, if◌then◌else◌, List, [], ◌∷◌, ◌++◌, length, take, slice_get, is_some, Option, Some, None}
 use Rattle.cache_terms.specs.declared.keys.Key.{Key}
 use Rattle.cache_terms.specs.declared.events.Got.{Got}
 use Rattle.cache_terms.specs.declared.events.Limits.{Limits}
@@ -12,17 +12,22 @@ use Rattle.cache_terms.specs.Offers.{why_of}
 use Rattle.cache_model.specs.Journal.{Started, starts, IsOpen, reserved, bytes, IsLastCover, IsChoice, IsHeldUnder, IsCount}
 
 -- DUE. The first that applies: it failed; there is a reason not to keep it (RFC 9111, section 3: storing responses); it
--- was covered since its Start, also by a tag that was learnt with it; there is no room for it; else it is stored.
+-- was covered since its Start, also by a tag that was learnt with it; there is no room for it; else it is stored. Where
+-- it would be stored, want of memory may come instead.
 
 -- the outcome where there is no such reason, with the last cover since the Start
 abbrev pub due_after : Option ℕ → (stored size limit : ℕ) → Outcome
 due_after (Some p) stored size limit = outcome.Void p
 due_after None stored size limit = if nat_lt limit (stored + size) then outcome.NoRoom stored size limit else outcome.Stored
 
+-- the outcome is this one, or want of memory in the place of Stored
+abbrev pub IsOrMemory : (due out : Outcome) → Type 0
+IsOrMemory due out = (out ≡ due) ⊎ ((due ≡ outcome.Stored) × (out ≡ outcome.Memory))
+
 -- the outcome of a fetch that did not fail, with the reason not to keep it
 abbrev pub IsDueBy : Option Why → Limits → List Event → Started → Got → Outcome → Type 0
 IsDueBy (Some why) limits J s got out = out ≡ outcome.Unstorable why
-IsDueBy None limits J s got out = (cover : Option ℕ) × IsLastCover J s.at s.key got.tags cover × (out ≡ due_after cover (bytes J) got.size limits.bytes)
+IsDueBy None limits J s got out = (cover : Option ℕ) × IsLastCover J s.at s.key got.tags cover × IsOrMemory (due_after cover (bytes J) got.size limits.bytes) out
 
 -- the outcome that is due to the ticket that s started
 abbrev pub IsDue : Limits → List Event → Started → Option Got → Outcome → Type 0

@@ -5,11 +5,12 @@ use Rattle.cache_terms.specs.declared.events.Event.{Event}
 use Rattle.cache_model.specs.Journal.{bytes}
 use Rattle.cache_model.specs.Legal.{IsLegal}
 
--- an epoch and its journal, within limits that no call changes
+-- an epoch and its journal, within limits that no call changes, and how many probes of stamps were made so far
 pub record State : Type 0 where
   pub limits : Limits
   pub epoch : ℕ
   pub journal : List Event
+  pub probes : ℕ
 
 -- the limits are in their ranges
 pub record IsWithinRanges (limits : Limits) : Type 0 where
@@ -25,7 +26,7 @@ pub record IsLegalState (s : State) : Type 0 where
 
 -- the state of a book that was just opened
 abbrev pub opened : Limits → ℕ → State
-opened limits first = record { limits = limits; epoch = first; journal = [] }
+opened limits first = record { limits = limits; epoch = first; journal = []; probes = 0 }
 
 -- the next epoch, which is empty: its tickets begin at 0 again, and nothing is held
 abbrev pub turned : State → State

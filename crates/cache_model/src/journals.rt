@@ -11,7 +11,7 @@ pub fn choice_is_masked()
     ensures { ChoiceIsMasked }
 {}
 
-/// One outcome is due.
+/// One outcome is due, but for want of memory.
 pub fn outcome_is_unique()
     ensures { OutcomeIsUnique }
 {}

@@ -26,10 +26,10 @@ use Rattle.cache_book.proofs.Stepping.{step_by}
 use Rattle.cache_book.proofs.Outliving.{look_owed}
 use Rattle.cache_seam.specs.declared.foreign.Foreign.{Foreign}
 use Rattle.cache_seam.specs.declared.foreign.Foreign.TheVariants as foreign
-use Rattle.cache_seam.specs.Objects.{IsLawful, OffersObject, CallOffersObject}
+use Rattle.cache_seam.specs.Objects.{KeepsObjects, OffersObject, CallOffersObject}
 use Rattle.cache_seam.specs.Turns.{Calls, IsOwnCall, pinned_after, begun_after, seen_after}
 use Rattle.cache_seam.specs.Hand.{AreAnswers}
-use Rattle.cache_seam.specs.Meddling.{Meddling, seen_meddled, IsFitting, Closes, Puts, MayDo, Meddles, IsKept, IsReady, first_of, steps_of, MeddledCall}
+use Rattle.cache_seam.specs.Meddling.{Meddling, seen_meddled, IsFitting, SettlesMiss, Puts, MayDo, Meddles, IsSetAside, IsBetweenCalls, first_steps, steps_of, MeddledCall}
 use Rattle.cache_seam.proofs.Hands.{looks_granted, coherent_after}
 use Rattle.cache_seam.proofs.LoneCalls.{lawful_after, pinned_to_left}
 use Rattle.cache_seam.proofs.Coherent.{is_turn}
@@ -61,7 +61,7 @@ nothing_left xs h = no_length xs h
 begins_without : (pass : Pinned) (old new : State) (after : Pinned) → Step old (Begin 1) (Begun after) new → Without old new 0 × (after.who ≡ 1)
 begins_without pass old new after h = (by_without 0 1 old new (step_by old (Begin 1) (Begun after) new 1 refl h) (λ is. absurd (omega (arith, is))), ap (λ (p : Pinned). p.who) h.1)
 
-closes_without : (answer : Found) (pass : Pinned) (id : Option (List ℕ)) (key : Key) (mid : State) (offer : Offer) (new : State) → pass.who ≡ 1 → AreAnswers pass id (key ∷ []) (answer ∷ []) → Closes answer mid offer new → Without mid new 0
+closes_without : (answer : Found) (pass : Pinned) (id : Option (List ℕ)) (key : Key) (mid : State) (offer : Offer) (new : State) → pass.who ≡ 1 → AreAnswers pass id (key ∷ []) (answer ∷ []) → SettlesMiss answer mid offer new → Without mid new 0
 closes_without (found.Hit l q v m b) pass id key mid offer new who granted h = subst (λ (s : State). Without mid s 0) (sym h) (without_refl 0 mid)
 closes_without (found.Miss l p) pass id key mid offer new who granted h = by_without 0 1 mid new (step_by mid (Settle p (report.Got offer)) (Closed h.0) new 1 (granted.0.who ∙ who) h.1) (λ is. absurd (omega (arith, is)))
 closes_without (found.Bypass p) pass id key mid offer new who granted h = by_without 0 1 mid new (step_by mid (Settle p (report.Got offer)) (Closed h.0) new 1 (granted.0.who ∙ who) h.1) (λ is. absurd (omega (arith, is)))
@@ -85,26 +85,26 @@ meddles_without (step ∷ steps) pass old new after who (mid, between, h, k) =
     let rest = meddles_without steps between mid new after first.1 k in
     (without_trans 0 old mid new first.0 rest.0, rest.1)
 
-closes_lawful : (answer : Found) (mid : State) (offer : Offer) (new : State) → OffersObject (report.Got offer) → IsInRange (report.Got offer) → AreOwed mid (answer ∷ []) → IsLawful mid → Closes answer mid offer new → IsLawful new
-closes_lawful (found.Hit l q v m b) mid offer new object range owed lawful h = subst IsLawful (sym h) lawful
+closes_lawful : (answer : Found) (mid : State) (offer : Offer) (new : State) → OffersObject (report.Got offer) → IsInRange (report.Got offer) → AreOwed mid (answer ∷ []) → KeepsObjects mid → SettlesMiss answer mid offer new → KeepsObjects new
+closes_lawful (found.Hit l q v m b) mid offer new object range owed lawful h = subst KeepsObjects (sym h) lawful
 closes_lawful (found.Miss l p) mid offer new object range owed lawful h = lawful_after mid (Settle p (report.Got offer)) (Closed h.0) new lawful (owed.0, range) object h.1
 closes_lawful (found.Bypass p) mid offer new object range owed lawful h = lawful_after mid (Settle p (report.Got offer)) (Closed h.0) new lawful (owed.0, range) object h.1
 
-puts_lawful : (pass : Pinned) (key : Key) (id : Option (List ℕ)) (offer : Offer) (now : ℕ) (old new : State) → OffersObject (report.Got offer) → IsInRange (report.Got offer) → IsLawful old → Puts pass key id offer now old new → IsLawful new
+puts_lawful : (pass : Pinned) (key : Key) (id : Option (List ℕ)) (offer : Offer) (now : ℕ) (old new : State) → OffersObject (report.Got offer) → IsInRange (report.Got offer) → KeepsObjects old → Puts pass key id offer now old new → KeepsObjects new
 puts_lawful pass key id offer now old new object range lawful h =
     let mid = lawful_after old (Look pass id (key ∷ []) now) (Looked (h.answer ∷ [])) h.mid lawful tt tt h.looks in
     let owed = look_owed old pass id (key ∷ []) now (h.answer ∷ []) h.mid lawful.legal h.looks in
     closes_lawful h.answer h.mid offer new object range owed mid h.closes
 
-may_do_lawful : (step : Foreign) (pass : Pinned) (old new : State) (after : Pinned) → IsFitting step → IsLawful old → MayDo step pass old new after → IsLawful new
-may_do_lawful step pass old new after fits lawful (inr h) = subst IsLawful (sym h.0) lawful
+may_do_lawful : (step : Foreign) (pass : Pinned) (old new : State) (after : Pinned) → IsFitting step → KeepsObjects old → MayDo step pass old new after → KeepsObjects new
+may_do_lawful step pass old new after fits lawful (inr h) = subst KeepsObjects (sym h.0) lawful
 may_do_lawful foreign.Begin pass old new after fits lawful (inl h) = lawful_after old (Begin 1) (Begun after) new lawful tt tt h
 may_do_lawful (foreign.Void target) pass old new after fits lawful (inl h) = lawful_after old (Invalidate 1 target) (Voided h.0.0) new lawful tt tt h.0.1
 may_do_lawful (foreign.Put key id offer now) pass old new after fits lawful (inl h) = puts_lawful pass key id offer now old new fits.0 fits.1 lawful h.0
 
 -- it leaves a lawful state
-pub meddles_lawful : (steps : List Foreign) (pass : Pinned) (old new : State) (after : Pinned) → All IsFitting steps → IsLawful old → Meddles steps pass old new after → IsLawful new
-meddles_lawful [] pass old new after fits lawful h = subst IsLawful (sym h.0) lawful
+pub meddles_lawful : (steps : List Foreign) (pass : Pinned) (old new : State) (after : Pinned) → All IsFitting steps → KeepsObjects old → Meddles steps pass old new after → KeepsObjects new
+meddles_lawful [] pass old new after fits lawful h = subst KeepsObjects (sym h.0) lawful
 meddles_lawful (step ∷ steps) pass old new after fits lawful (mid, between, h, k) = meddles_lawful steps between mid new after (All-tail IsFitting step steps fits) (may_do_lawful step pass old mid between (All-head IsFitting step steps fits) lawful h) k
 
 -- each of its steps may find no memory
@@ -123,7 +123,7 @@ test_false a b test = grind (arith, nat_tests)
 pinned_there : (call : Call) (a b left : ℕ) → a ≡ b → pinned_after call a left ≡ left → pinned_after call b left ≡ left
 pinned_there call a b left is h = subst (λ (p : ℕ). pinned_after call p left ≡ left) is h
 
-kept_is : (old found new : State) (pinned : ℕ) (past kept : List Event) (call : Call) (answer : Answer) → IsKept old found pinned past kept → Step found call answer new → new.epoch ≢ pinned_after call pinned new.epoch → kept ≡ (if old.epoch == pinned then old.journal else past)
+kept_is : (old found new : State) (pinned : ℕ) (past kept : List Event) (call : Call) (answer : Answer) → IsSetAside old found pinned past kept → Step found call answer new → new.epoch ≢ pinned_after call pinned new.epoch → kept ≡ (if old.epoch == pinned then old.journal else past)
 kept_is old found new pinned past kept call answer (inl is) h differ = is
 kept_is old found new pinned past kept call answer (inr is) h differ = is.1 ∙ by_test (old.epoch == pinned) refl
   where
@@ -134,7 +134,7 @@ kept_is old found new pinned past kept call answer (inr is) h differ = is.1 ∙ 
     by_test false test = refl
 
 -- what is seen is what the turn leaves
-seen_there : (old found new : State) (pinned after : ℕ) (begun : Bool) (past kept : List Event) (call : Call) (answer : Answer) → IsKept old found pinned past kept → Step found call answer new → after ≡ pinned_after call pinned new.epoch
+seen_there : (old found new : State) (pinned after : ℕ) (begun : Bool) (past kept : List Event) (call : Call) (answer : Answer) → IsSetAside old found pinned past kept → Step found call answer new → after ≡ pinned_after call pinned new.epoch
     → seen_meddled new after (begun_after call begun) kept ≡ seen_after (seen_meddled old pinned begun past) (record { found = found; call = call; answer = answer; left = new })
 seen_there old found new pinned after begun past kept call answer k h is =
     ap (λ (p : ℕ). seen_meddled new p (begun_after call begun) kept) is
@@ -146,9 +146,9 @@ seen_there old found new pinned after begun past kept call answer k h is =
 
 -- what is known of the cache before a call, of what the second user then did, and of the step that the first user makes
 pub record Acts (old found new : State) (own : Pinned) (pinned pin : ℕ) (begun : Bool) (past kept : List Event) (second after : Pinned) (later rest : List (List Foreign)) (call : Call) (answer : Answer) : Type 0 where
-  pub ready : IsReady old own pinned begun past second later
-  pub meddles : Meddles (first_of later) second old found after
-  pub kept_is : IsKept old found pinned past kept
+  pub ready : IsBetweenCalls old own pinned begun past second later
+  pub meddles : Meddles (first_steps later) second old found after
+  pub kept_is : IsSetAside old found pinned past kept
   pub rest_is : rest ≡ drop 1 later
   pub is_own : IsOwnCall (seen_meddled old pinned begun past) call
   pub may : MayCall found call
@@ -156,15 +156,15 @@ pub record Acts (old found new : State) (own : Pinned) (pinned pin : ℕ) (begun
   pub step : Step found call answer new
   pub pin_is : pin ≡ pinned_after call pinned new.epoch
 
-first_fits : (later : List (List Foreign)) → All (All IsFitting) later → All IsFitting (first_of later)
+first_fits : (later : List (List Foreign)) → All (All IsFitting) later → All IsFitting (first_steps later)
 first_fits [] all = All-nil IsFitting
 first_fits (steps ∷ later) all = All-head (All IsFitting) steps later all
 
-pub found_without : (old found : State) (own : Pinned) (pinned : ℕ) (begun : Bool) (past : List Event) (second after : Pinned) (later : List (List Foreign)) → IsReady old own pinned begun past second later → Meddles (first_of later) second old found after → Without old found 0
-found_without old found own pinned begun past second after later r h = (meddles_without (first_of later) second old found after r.number h).0
+pub found_without : (old found : State) (own : Pinned) (pinned : ℕ) (begun : Bool) (past : List Event) (second after : Pinned) (later : List (List Foreign)) → IsBetweenCalls old own pinned begun past second later → Meddles (first_steps later) second old found after → Without old found 0
+found_without old found own pinned begun past second after later r h = (meddles_without (first_steps later) second old found after r.number h).0
 
-pub found_lawful : (old found : State) (own : Pinned) (pinned : ℕ) (begun : Bool) (past : List Event) (second after : Pinned) (later : List (List Foreign)) → IsReady old own pinned begun past second later → Meddles (first_of later) second old found after → IsLawful found
-found_lawful old found own pinned begun past second after later r h = meddles_lawful (first_of later) second old found after (first_fits later r.fitting) r.coherent.lawful h
+pub found_lawful : (old found : State) (own : Pinned) (pinned : ℕ) (begun : Bool) (past : List Event) (second after : Pinned) (later : List (List Foreign)) → IsBetweenCalls old own pinned begun past second later → Meddles (first_steps later) second old found after → KeepsObjects found
+found_lawful old found own pinned begun past second after later r h = meddles_lawful (first_steps later) second old found after (first_fits later r.fitting) r.coherent.lawful h
 
 -- a step of the first user is a call amid those of the second
 pub amid_call : (old found new : State) (own : Pinned) (pinned pin : ℕ) (begun : Bool) (past kept : List Event) (second after : Pinned) (later rest : List (List Foreign)) (call : Call) (answer : Answer) → Acts old found new own pinned pin begun past kept second after later rest call answer
@@ -192,36 +192,36 @@ amid_call old found new own pinned pin begun past kept second after later rest c
 
 -- and leaves the cache ready for the next
 pub amid_ready : (old found new : State) (own : Pinned) (pinned pin : ℕ) (begun : Bool) (past kept : List Event) (second after : Pinned) (later rest : List (List Foreign)) (call : Call) (answer : Answer) → Acts old found new own pinned pin begun past kept second after later rest call answer
-    → (then_own : Pinned) → (begun_after call begun ≡ true → then_own ≡ record { who = 0; epoch = pin }) → IsReady new then_own pin (begun_after call begun) kept after rest
+    → (then_own : Pinned) → (begun_after call begun ≡ true → then_own ≡ record { who = 0; epoch = pin }) → IsBetweenCalls new then_own pin (begun_after call begun) kept after rest
 amid_ready old found new own pinned pin begun past kept second after later rest call answer a then_own is = record {
   coherent = coherent_after (seen_meddled old pinned begun past) (seen_meddled new pin (begun_after call begun) kept) call answer (amid_call old found new own pinned pin begun past kept second after later rest call answer a).calls;
   own = is;
-  number = (meddles_without (first_of later) second old found after a.ready.number a.meddles).1;
+  number = (meddles_without (first_steps later) second old found after a.ready.number a.meddles).1;
   fitting = subst (All (All IsFitting)) (sym a.rest_is) (All-drop (All IsFitting) 1 later a.ready.fitting);
 }
 
 -- A LOOK
 
 pub look_acts : (old found new : State) (own : Pinned) (pinned : ℕ) (begun : Bool) (past kept : List Event) (second after : Pinned) (later rest : List (List Foreign)) (id : Option (List ℕ)) (asks : List Key) (now : ℕ) (answer : Answer)
-    → IsReady old own pinned begun past second later → Meddles (first_of later) second old found after → IsKept old found pinned past kept → rest ≡ drop 1 later → begun ≡ true → Step found (Look own id asks now) answer new
+    → IsBetweenCalls old own pinned begun past second later → Meddles (first_steps later) second old found after → IsSetAside old found pinned past kept → rest ≡ drop 1 later → begun ≡ true → Step found (Look own id asks now) answer new
     → Acts old found new own pinned pinned begun past kept second after later rest (Look own id asks now) answer
 look_acts old found new own pinned begun past kept second after later rest id asks now answer r h k d b s = record { ready = r; meddles = h; kept_is = k; rest_is = d; is_own = (r.own b, b); may = tt; offers = tt; step = s; pin_is = refl }
 
 look_amid : (old found new : State) (own : Pinned) (pinned : ℕ) (begun : Bool) (past kept : List Event) (second after : Pinned) (later rest : List (List Foreign)) (id : Option (List ℕ)) (asks : List Key) (now : ℕ) (answer : Answer)
-    → IsReady old own pinned begun past second later → Meddles (first_of later) second old found after → IsKept old found pinned past kept → rest ≡ drop 1 later → begun ≡ true → Step found (Look own id asks now) answer new
+    → IsBetweenCalls old own pinned begun past second later → Meddles (first_steps later) second old found after → IsSetAside old found pinned past kept → rest ≡ drop 1 later → begun ≡ true → Step found (Look own id asks now) answer new
     → MeddledCall (record { seen = seen_meddled old pinned begun past; pass = second; later = later }) (Look (record { who = 0; epoch = pinned }) id asks now) answer (record { seen = seen_meddled new pinned begun kept; pass = after; later = rest })
 look_amid old found new own pinned begun past kept second after later rest id asks now answer r h k d b s =
     subst (λ (p : Pinned). MeddledCall (record { seen = seen_meddled old pinned begun past; pass = second; later = later }) (Look p id asks now) answer (record { seen = seen_meddled new pinned begun kept; pass = after; later = rest })) (r.own b)
     (amid_call old found new own pinned pinned begun past kept second after later rest (Look own id asks now) answer (look_acts old found new own pinned begun past kept second after later rest id asks now answer r h k d b s))
 
 pub looks_amid : {X Y : Type 0} (res : Result X Y) (told : X → List Found) (old found new : State) (own : Pinned) (pinned : ℕ) (begun : Bool) (past kept : List Event) (second after : Pinned) (later rest : List (List Foreign)) (id : Option (List ℕ)) (asks : List Key) (now : ℕ)
-    → IsReady old own pinned begun past second later → Meddles (first_of later) second old found after → IsKept old found pinned past kept → rest ≡ drop 1 later → begun ≡ true → IfOk res (λ a. Step found (Look own id asks now) (Looked (told a)) new)
+    → IsBetweenCalls old own pinned begun past second later → Meddles (first_steps later) second old found after → IsSetAside old found pinned past kept → rest ≡ drop 1 later → begun ≡ true → IfOk res (λ a. Step found (Look own id asks now) (Looked (told a)) new)
     → IfOk res (λ a. MeddledCall (record { seen = seen_meddled old pinned begun past; pass = second; later = later }) (Look (record { who = 0; epoch = pinned }) id asks now) (Looked (told a)) (record { seen = seen_meddled new pinned begun kept; pass = after; later = rest }))
 looks_amid (Ok a) told old found new own pinned begun past kept second after later rest id asks now r h k d b s = look_amid old found new own pinned begun past kept second after later rest id asks now (Looked (told a)) r h k d b s
 looks_amid (Err e) told old found new own pinned begun past kept second after later rest id asks now r h k d b s = tt
 
 pub looks_amid_not : {X Y : Type 0} (res : Result X Y) (old found new : State) (own : Pinned) (pinned : ℕ) (begun : Bool) (past kept : List Event) (second after : Pinned) (later rest : List (List Foreign)) (id : Option (List ℕ)) (asks : List Key) (now : ℕ)
-    → IsReady old own pinned begun past second later → Meddles (first_of later) second old found after → IsKept old found pinned past kept → rest ≡ drop 1 later → begun ≡ true → OnErr res (Step found (Look own id asks now) OutOfMemory new)
+    → IsBetweenCalls old own pinned begun past second later → Meddles (first_steps later) second old found after → IsSetAside old found pinned past kept → rest ≡ drop 1 later → begun ≡ true → OnErr res (Step found (Look own id asks now) OutOfMemory new)
     → OnErr res (MeddledCall (record { seen = seen_meddled old pinned begun past; pass = second; later = later }) (Look (record { who = 0; epoch = pinned }) id asks now) OutOfMemory (record { seen = seen_meddled new pinned begun kept; pass = after; later = rest }))
 looks_amid_not (Ok a) old found new own pinned begun past kept second after later rest id asks now r h k d b s = tt
 looks_amid_not (Err e) old found new own pinned begun past kept second after later rest id asks now r h k d b s = look_amid old found new own pinned begun past kept second after later rest id asks now OutOfMemory r h k d b s
@@ -241,8 +241,8 @@ pub looks_calls_not : {X Y : Type 0} (res : Result X Y) (old new : Meddling) (ca
 looks_calls_not res old new call answer h = err_calls res old new call answer h
 
 pub looks_ready : {X Y : Type 0} (res : Result X Y) (told : X → List Found) (old found new : State) (own : Pinned) (pinned : ℕ) (begun : Bool) (past kept : List Event) (second after : Pinned) (later rest : List (List Foreign)) (id : Option (List ℕ)) (asks : List Key) (now : ℕ)
-    → IsReady old own pinned begun past second later → Meddles (first_of later) second old found after → IsKept old found pinned past kept → rest ≡ drop 1 later → begun ≡ true → IfOk res (λ a. Step found (Look own id asks now) (Looked (told a)) new) → OnErr res (Step found (Look own id asks now) OutOfMemory new)
-    → IsReady new own pinned begun kept after rest
+    → IsBetweenCalls old own pinned begun past second later → Meddles (first_steps later) second old found after → IsSetAside old found pinned past kept → rest ≡ drop 1 later → begun ≡ true → IfOk res (λ a. Step found (Look own id asks now) (Looked (told a)) new) → OnErr res (Step found (Look own id asks now) OutOfMemory new)
+    → IsBetweenCalls new own pinned begun kept after rest
 looks_ready (Ok a) told old found new own pinned begun past kept second after later rest id asks now r h k d b ok err =
     amid_ready old found new own pinned pinned begun past kept second after later rest (Look own id asks now) (Looked (told a)) (look_acts old found new own pinned begun past kept second after later rest id asks now (Looked (told a)) r h k d b ok) own r.own
 looks_ready (Err e) told old found new own pinned begun past kept second after later rest id asks now r h k d b ok err =

@@ -11,7 +11,7 @@ use Rattle.cache_model.specs.State.{State}
 use Rattle.cache_model.specs.Story.{who_of, Adds}
 use Rattle.cache_book.specs.Calls.{Call, Step, MayCall, Run, Begin, Look, Settle, Invalidate, Tally}
 use Rattle.cache_seam.specs.Seen.{Seen, Visit, IsCoherent}
-use Rattle.cache_seam.specs.Turns.{Turn, Takes, AreTurns, IsTurn, KeepObjects, visit_of, seen_after, seen_after_all, pinned_after}
+use Rattle.cache_seam.specs.Turns.{Turn, TakesTurns, AreTurns, IsTurn, KeepObjects, visit_of, seen_after, seen_after_all, pinned_after}
 use Rattle.cache_seam.specs.Chains.{own_events, added_in, added_by, seen_in, calls_of, answers_of, visits_of, AreFronts}
 use Rattle.cache_seam.proofs.Hands.{turn_by, adds_epoch, epoch_after}
 
@@ -22,7 +22,7 @@ same_user c [] = (refl, refl, refl)
 same_user c (t ∷ ts) = same_user (seen_after c t) ts
 
 -- no call changes the number, the home, or whether it is alone
-pub takes_same : (c d : Seen) (ts : List Turn) → Takes c ts d → (d.number ≡ c.number) × (d.home ≡ c.home) × (d.lone ≡ c.lone)
+pub takes_same : (c d : Seen) (ts : List Turn) → TakesTurns c ts d → (d.number ≡ c.number) × (d.home ≡ c.home) × (d.lone ≡ c.lone)
 takes_same c d ts h =
     let same = same_user c ts in
     (ap (λ (s : Seen). s.number) h.after ∙ same.0, ap (λ (s : Seen). s.home) h.after ∙ same.1, ap (λ (s : Seen). s.lone) h.after ∙ same.2)
@@ -42,7 +42,7 @@ trace_after c [] = trace_nil c.trace
 trace_after c (t ∷ ts) = trace_after (seen_after c t) ts ∙ trace_cons c.trace (visit_of t) (visits_of ts)
 
 -- a trace that is told gains just the turns
-pub takes_told : (c d : Seen) (ts : List Turn) → Takes c ts d → d.trace ≡ option_map (λ vs. vs ++ visits_of ts) c.trace
+pub takes_told : (c d : Seen) (ts : List Turn) → TakesTurns c ts d → d.trace ≡ option_map (λ vs. vs ++ visits_of ts) c.trace
 takes_told c d ts h = ap (λ (s : Seen). s.trace) h.after ∙ trace_after c ts
 
 -- ALONE
@@ -54,7 +54,7 @@ lone_run c (t ∷ ts) lone h =
     (t.left, subst (λ (s : State). MayCall s t.call) same h.0.may, subst (λ (s : State). Step s t.call t.answer t.left) same h.0.step, lone_run (seen_after c t) ts lone h.1)
 
 -- where nobody else steps on the book, the turns are a run from the state left before
-pub takes_run : (c d : Seen) (ts : List Turn) → c.lone ≡ true → Takes c ts d → Run c.left (calls_of ts) (answers_of ts) d.left
+pub takes_run : (c d : Seen) (ts : List Turn) → c.lone ≡ true → TakesTurns c ts d → Run c.left (calls_of ts) (answers_of ts) d.left
 takes_run c d ts lone h = subst (λ (s : Seen). Run c.left (calls_of ts) (answers_of ts) s.left) (sym h.after) (lone_run c ts lone h.are_turns)
 
 -- OWN EVENTS
@@ -223,7 +223,7 @@ turns_own c (t ∷ ts) p h le =
     turns_own (seen_after c t) ts p h.1 le ∙ ap (λ (l : List Event). l ++ added_by p (visits_of ts)) (turn_own c t p h.0 first) ∙ append_assoc (own_events c.number (seen_in p c)) (added_in p (visit_of t)) (added_by p (visits_of ts))
 
 -- in the pinned epoch the user's events are those that it had seen there before, and then those that its turns appended
-pub takes_own : (c d : Seen) (ts : List Turn) → Takes c ts d → own_events d.number d.journal ≡ own_events c.number (seen_in d.pinned c) ++ added_by d.pinned (visits_of ts)
+pub takes_own : (c d : Seen) (ts : List Turn) → TakesTurns c ts d → own_events d.number d.journal ≡ own_events c.number (seen_in d.pinned c) ++ added_by d.pinned (visits_of ts)
 takes_own c d ts h =
     let end = seen_after_all c ts in
     let here : seen_in end.pinned end ≡ end.journal = pick_same end.pinned end.pinned end.journal [] refl in
@@ -260,7 +260,7 @@ turns_grow c (t ∷ ts) h pin =
     let rest = turns_grow (seen_after c t) ts h.1 (pin ∙ sym same) in
     (one.0 ++ rest.0, rest.1 ∙ ap (λ (l : List Event). l ++ rest.0) one.1 ∙ append_assoc c.journal one.0 rest.0)
 
-pub takes_grow : (c d : Seen) (ts : List Turn) → Takes c ts d → d.pinned ≡ c.pinned → (ds : List Event) × (d.journal ≡ c.journal ++ ds)
+pub takes_grow : (c d : Seen) (ts : List Turn) → TakesTurns c ts d → d.pinned ≡ c.pinned → (ds : List Event) × (d.journal ≡ c.journal ++ ds)
 takes_grow c d ts h pin =
     let end = turns_grow c ts h.are_turns (sym (ap (λ (s : Seen). s.pinned) h.after) ∙ pin) in
     (end.0, ap (λ (s : Seen). s.journal) h.after ∙ end.1)
@@ -305,7 +305,7 @@ fronts c [] h = tt
 fronts c (t ∷ ts) h = ((λ here. left_front (seen_after c t) ts h.0.after h.1 here), fronts (seen_after c t) ts h.1)
 
 -- the journal seen in the end has each journal of its epoch that a turn left as a prefix
-pub takes_fronts : (c d : Seen) (ts : List Turn) → Takes c ts d → AreFronts d.pinned ts d.journal
+pub takes_fronts : (c d : Seen) (ts : List Turn) → TakesTurns c ts d → AreFronts d.pinned ts d.journal
 takes_fronts c d ts h = subst (λ (s : Seen). AreFronts s.pinned ts s.journal) (sym h.after) (fronts c ts h.are_turns)
 
 pub turns_split : (c : Seen) (ts us : List Turn) → AreTurns c (ts ++ us) → AreTurns c ts × AreTurns (seen_after_all c ts) us
@@ -319,5 +319,5 @@ turns_keep c [] h = tt
 turns_keep c (t ∷ ts) h = (h.0.found_lawful.objects, h.0.after.lawful.objects, turns_keep (seen_after c t) ts h.1)
 
 -- the states of the turns keep texts of JSON objects alone
-pub takes_keep : (c d : Seen) (ts : List Turn) → Takes c ts d → KeepObjects ts
+pub takes_keep : (c d : Seen) (ts : List Turn) → TakesTurns c ts d → KeepObjects ts
 takes_keep c d ts h = turns_keep c ts h.are_turns

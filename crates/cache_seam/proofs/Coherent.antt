@@ -20,7 +20,7 @@ use Rattle.cache_book.specs.Permits.{Pinned, Granted}
 use Rattle.cache_book.specs.Looking.{LooksBy, bypass_mark}
 use Rattle.cache_book.specs.Settling.{SettlesBy, Appends, Leaves, MayBy, IsOwed}
 use Rattle.cache_book.specs.Calls.{Call, Answer, Step, MayCall, Begin, Look, Settle, Invalidate, Tally, Begun, Looked, Closed, Voided, Tallied, OutOfMemory}
-use Rattle.cache_seam.specs.Objects.{IsLawful, CallOffersObject}
+use Rattle.cache_seam.specs.Objects.{KeepsObjects, CallOffersObject}
 use Rattle.cache_seam.specs.Seen.{Seen, IsCoherent}
 use Rattle.cache_seam.specs.Turns.{Turn, IsTurn, IsOwnCall, seen_after, pinned_after}
 use Rattle.cache_seam.proofs.StandingHits.{looked_here}
@@ -145,7 +145,7 @@ pub record CanTurn (c : Seen) (t : Turn) : Type 0 where
   pub own : IsOwnCall c t.call
   pub goes_on : Without c.left t.found c.number
   pub alone : c.lone ≡ true → t.found ≡ c.left
-  pub found_lawful : IsLawful t.found
+  pub found_lawful : KeepsObjects t.found
   pub may : MayCall t.found t.call
   pub offers : CallOffersObject t.call
   pub step : Step t.found t.call t.answer t.left

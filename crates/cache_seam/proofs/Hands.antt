@@ -21,7 +21,7 @@ use Rattle.cache_book.proofs.Stepping.{step_by, permit_without, look_new}
 use Rattle.cache_book.proofs.Outliving.{look_owed, settle_outlived}
 use Rattle.cache_seam.specs.Seen.{Seen, IsCoherent, pass_of}
 use Rattle.cache_seam.specs.Turns.{Turn, Calls, IsTurn, IsOwnCall}
-use Rattle.cache_seam.specs.Hand.{permits_of, AreAnswers, AreApart, IsSpendable, IsHand}
+use Rattle.cache_seam.specs.Hand.{permits_of, AreAnswers, AreOfTwoTickets, IsSpendable, IsHand}
 
 -- WHAT A CALL KEEPS
 
@@ -63,7 +63,7 @@ epoch_after c t h =
 -- PERMITS
 
 -- where a permit is settled, each that is not for its ticket stays as it is
-spent_keeps : (m : Mark) (found : State) (p q : Granted) (r : Report) (s : Settled) (left : State) → q.mark ≡ m → Step found (Settle p r) (Closed s) left → AreApart p q → MayBy m found q → MayBy m left q
+spent_keeps : (m : Mark) (found : State) (p q : Granted) (r : Report) (s : Settled) (left : State) → q.mark ≡ m → Step found (Settle p r) (Closed s) left → AreOfTwoTickets p q → MayBy m found q → MayBy m left q
 spent_keeps (mark.Ticket t) found p q r s left is h apart may =
     let kept : MaySettle left q = settle_outlived found p r s left h q (λ marks epochs. apart t (sym marks ∙ is) is (sym epochs)) (subst (λ (n : Mark). MayBy n found q) (sym is) may) in
     subst (λ (n : Mark). MayBy n left q) is kept
@@ -72,7 +72,7 @@ spent_keeps (mark.Full a b d e) found p q r s left is h apart may = tt
 spent_keeps (mark.Wide a b) found p q r s left is h apart may = tt
 spent_keeps mark.Retired found p q r s left is h apart may = tt
 
-spendable_after : (old new : Seen) (p q : Granted) (r : Report) (s : Settled) → Calls old (Settle p r) (Closed s) new → AreApart p q → IsSpendable old q → IsSpendable new q
+spendable_after : (old new : Seen) (p q : Granted) (r : Report) (s : Settled) → Calls old (Settle p r) (Closed s) new → AreOfTwoTickets p q → IsSpendable old q → IsSpendable new q
 spendable_after old new p q r s h apart spendable =
     let here = left_of old new (Settle p r) (Closed s) h in
     let number = number_of old new (Settle p r) (Closed s) h in
@@ -86,9 +86,9 @@ spendable_after old new p q r s h apart spendable =
       may = subst (λ (x : State). MaySettle x q) (sym here) left_may;
     }
 
-others_after : (old new : Seen) (p : Granted) (r : Report) (s : Settled) (ps : List Granted) → Calls old (Settle p r) (Closed s) new → All (AreApart p) ps → IsHand old ps → IsHand new ps
+others_after : (old new : Seen) (p : Granted) (r : Report) (s : Settled) (ps : List Granted) → Calls old (Settle p r) (Closed s) new → All (AreOfTwoTickets p) ps → IsHand old ps → IsHand new ps
 others_after old new p r s [] h apart hand = tt
-others_after old new p r s (q ∷ qs) h apart hand = (spendable_after old new p q r s h (All-head (AreApart p) q qs apart) hand.0, hand.1, others_after old new p r s qs h (All-tail (AreApart p) q qs apart) hand.2)
+others_after old new p r s (q ∷ qs) h apart hand = (spendable_after old new p q r s h (All-head (AreOfTwoTickets p) q qs apart) hand.0, hand.1, others_after old new p r s qs h (All-tail (AreOfTwoTickets p) q qs apart) hand.2)
 
 -- where the first permit in hand was settled, the others are still in hand
 pub hand_after : (old new : Seen) (p : Granted) (r : Report) (s : Settled) (ps : List Granted) → Calls old (Settle p r) (Closed s) new → IsHand old (p ∷ ps) → IsHand new ps
@@ -132,10 +132,10 @@ no_tickets t (found.Miss l p ∷ answers) all = let both = no_ticket t p.mark (t
 no_tickets t (found.Bypass p ∷ answers) all = let both = no_ticket t p.mark (tickets_of answers) all in All-cons (λ (q : Granted). q.mark ≢ mark.Ticket t) p (permits_of answers) both.0 (no_tickets t answers both.1)
 
 -- the ticket of a permit is not among those after it
-first_apart : (J : List Event) (m : Mark) (answers : List Found) → AreNew J (ticket_of m ++ tickets_of answers) → (p : Granted) → p.mark ≡ m → All (AreApart p) (permits_of answers)
+first_apart : (J : List Event) (m : Mark) (answers : List Found) → AreNew J (ticket_of m ++ tickets_of answers) → (p : Granted) → p.mark ≡ m → All (AreOfTwoTickets p) (permits_of answers)
 first_apart J (mark.Ticket t) answers new p is =
     let others : All (λ u. u ≢ t) (tickets_of answers) = All-from_get_or (λ u. u ≢ t) (tickets_of answers) t (λ i less same. new.1 (i, less, same)) in
-    All-weaker (λ (q : Granted). q.mark ≢ mark.Ticket t) (AreApart p) (λ q no u pu qu same. no (qu ∙ sym pu ∙ is)) (permits_of answers) (no_tickets t answers others)
+    All-weaker (λ (q : Granted). q.mark ≢ mark.Ticket t) (AreOfTwoTickets p) (λ q no u pu qu same. no (qu ∙ sym pu ∙ is)) (permits_of answers) (no_tickets t answers others)
 first_apart J (mark.Over a b) answers new p is = λ k d less u pu qu same. absurd (cc (sym is ∙ pu))
 first_apart J (mark.Full a b d e) answers new p is = λ k x less u pu qu same. absurd (cc (sym is ∙ pu))
 first_apart J (mark.Wide a b) answers new p is = λ k d less u pu qu same. absurd (cc (sym is ∙ pu))

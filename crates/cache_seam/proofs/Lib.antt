@@ -9,3 +9,4 @@ pub mod Rounds
 pub mod Coherent
 pub mod Amid
 pub mod TestObjects
+pub mod Opening

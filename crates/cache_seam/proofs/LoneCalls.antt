@@ -16,7 +16,7 @@ use Rattle.cache_book.specs.Looking.{LooksBy, bypass_mark}
 use Rattle.cache_book.specs.Settling.{SettlesBy, Appends, Leaves}
 use Rattle.cache_book.specs.Calls.{Call, Answer, Step, MayCall, Begin, Look, Settle, Invalidate, Tally, Begun, Looked, Closed, Voided, Tallied, OutOfMemory}
 use Rattle.cache_book.proofs.Stepping.{step_legal}
-use Rattle.cache_seam.specs.Objects.{CallOffersObject, IsLawful}
+use Rattle.cache_seam.specs.Objects.{CallOffersObject, KeepsObjects}
 use Rattle.cache_seam.specs.Seen.{IsCoherent, pass_of}
 use Rattle.cache_seam.specs.Turns.{Turn, Calls, IsOwnCall, pinned_after, begun_after, seen_after}
 use Rattle.cache_seam.specs.Lonely.{seen_alone}
@@ -60,7 +60,7 @@ pinned_to_left old Tally (Closed c) new h = absurd h
 pinned_to_left old Tally (Voided v) new h = absurd h
 pinned_to_left old Tally OutOfMemory new h = absurd h
 
-alone_coherent : (s : State) (b : Bool) → IsLawful s → IsCoherent (seen_alone s b)
+alone_coherent : (s : State) (b : Bool) → KeepsObjects s → IsCoherent (seen_alone s b)
 alone_coherent s b lawful = record { reached = omega arith; current = λ _. refl; over = λ later. absurd (omega arith); lawful = lawful }
 
 seen_here : (new : State) (b : Bool) (J : List Event) (pinned : ℕ) → pinned ≡ new.epoch → seen_alone new b ≡ record { number = 0; pinned = pinned; begun = b; journal = if new.epoch == pinned then new.journal else J; left = new; home = []; lone = true; trace = None }
@@ -70,11 +70,11 @@ seen_here new b J pinned is =
     cc
 
 -- a step on the book is a call under number 0
-pub lone_calls : (old : State) (b : Bool) (call : Call) (answer : Answer) (new : State) → IsLawful old → IsOwnCall (seen_alone old b) call → MayCall old call → CallOffersObject call → Step old call answer new
+pub lone_calls : (old : State) (b : Bool) (call : Call) (answer : Answer) (new : State) → KeepsObjects old → IsOwnCall (seen_alone old b) call → MayCall old call → CallOffersObject call → Step old call answer new
     → Calls (seen_alone old b) call answer (seen_alone new (begun_after call b))
 lone_calls old b call answer new lawful own may offers h =
     let t : Turn = record { found = old; call = call; answer = answer; left = new } in
-    let left : IsLawful new = record { legal = step_legal old call answer new lawful.legal may h; objects = step_objects old call answer new h offers lawful.objects } in
+    let left : KeepsObjects new = record { legal = step_legal old call answer new lawful.legal may h; objects = step_objects old call answer new h offers lawful.objects } in
     let after : seen_alone new (begun_after call b) ≡ seen_after (seen_alone old b) t = seen_here new (begun_after call b) old.journal (pinned_after call old.epoch new.epoch) (pinned_to_left old call answer new h) in
     record {
       turn = t;
@@ -84,12 +84,12 @@ lone_calls old b call answer new lawful own may offers h =
       after = after;
     }
 
-pub lawful_after : (old : State) (call : Call) (answer : Answer) (new : State) → IsLawful old → MayCall old call → CallOffersObject call → Step old call answer new → IsLawful new
+pub lawful_after : (old : State) (call : Call) (answer : Answer) (new : State) → KeepsObjects old → MayCall old call → CallOffersObject call → Step old call answer new → KeepsObjects new
 lawful_after old call answer new lawful may offers h = record { legal = step_legal old call answer new lawful.legal may h; objects = step_objects old call answer new h offers lawful.objects }
 
 -- a look that may want memory leaves a lawful state
-pub looked_lawful : {X Y : Type 0} (r : Result X Y) (told : X → List Found) (old new : State) (pass : Pinned) (id : Option (List ℕ)) (asks : List Key) (now : ℕ) → IsLawful old
-    → IfOk r (λ a. Step old (Look pass id asks now) (Looked (told a)) new) → OnErr r (Step old (Look pass id asks now) OutOfMemory new) → IsLawful new
+pub looked_lawful : {X Y : Type 0} (r : Result X Y) (told : X → List Found) (old new : State) (pass : Pinned) (id : Option (List ℕ)) (asks : List Key) (now : ℕ) → KeepsObjects old
+    → IfOk r (λ a. Step old (Look pass id asks now) (Looked (told a)) new) → OnErr r (Step old (Look pass id asks now) OutOfMemory new) → KeepsObjects new
 looked_lawful (Ok a) told old new pass id asks now lawful ok err = lawful_after old (Look pass id asks now) (Looked (told a)) new lawful tt tt ok
 looked_lawful (Err e) told old new pass id asks now lawful ok err = lawful_after old (Look pass id asks now) OutOfMemory new lawful tt tt err
 
@@ -102,14 +102,14 @@ looked_epoch (Err e) told old new pass id asks now ok err = pinned_to_left old (
 pass_is : (old : State) (b : Bool) (pass : Pinned) → pass.who ≡ 0 → pass.epoch ≡ old.epoch → pass ≡ pass_of (seen_alone old b)
 pass_is old b pass who epoch = ap (λ (w : ℕ). record { who = w; epoch = pass.epoch }) who ∙ ap (λ (e : ℕ). record { who = 0; epoch = e }) epoch
 
-pub lone_looks : {X Y : Type 0} (r : Result X Y) (told : X → List Found) (old new : State) (b : Bool) (pass : Pinned) (id : Option (List ℕ)) (asks : List Key) (now : ℕ) → IsLawful old → pass.who ≡ 0 → pass.epoch ≡ old.epoch → b ≡ true
+pub lone_looks : {X Y : Type 0} (r : Result X Y) (told : X → List Found) (old new : State) (b : Bool) (pass : Pinned) (id : Option (List ℕ)) (asks : List Key) (now : ℕ) → KeepsObjects old → pass.who ≡ 0 → pass.epoch ≡ old.epoch → b ≡ true
     → IfOk r (λ a. Step old (Look pass id asks now) (Looked (told a)) new) → IfOk r (λ a. Calls (seen_alone old b) (Look (pass_of (seen_alone old b)) id asks now) (Looked (told a)) (seen_alone new b))
 lone_looks (Ok a) told old new b pass id asks now lawful who epoch begun ok =
     let is = pass_is old b pass who epoch in
     subst (λ (p : Pinned). Calls (seen_alone old b) (Look p id asks now) (Looked (told a)) (seen_alone new b)) is (lone_calls old b (Look pass id asks now) (Looked (told a)) new lawful (is, begun) tt tt ok)
 lone_looks (Err e) told old new b pass id asks now lawful who epoch begun ok = tt
 
-pub lone_looks_not : {X Y : Type 0} (r : Result X Y) (old new : State) (b : Bool) (pass : Pinned) (id : Option (List ℕ)) (asks : List Key) (now : ℕ) → IsLawful old → pass.who ≡ 0 → pass.epoch ≡ old.epoch → b ≡ true
+pub lone_looks_not : {X Y : Type 0} (r : Result X Y) (old new : State) (b : Bool) (pass : Pinned) (id : Option (List ℕ)) (asks : List Key) (now : ℕ) → KeepsObjects old → pass.who ≡ 0 → pass.epoch ≡ old.epoch → b ≡ true
     → OnErr r (Step old (Look pass id asks now) OutOfMemory new) → OnErr r (Calls (seen_alone old b) (Look (pass_of (seen_alone old b)) id asks now) OutOfMemory (seen_alone new b))
 lone_looks_not (Ok a) old new b pass id asks now lawful who epoch begun err = tt
 lone_looks_not (Err e) old new b pass id asks now lawful who epoch begun err =

@@ -21,7 +21,7 @@ use Rattle.cache_book.proofs.Outliving.{look_outlived}
 use Rattle.cache_book.proofs.Telling.{mark_is_none}
 use Rattle.cache_seam.specs.Seen.{Seen, pass_of}
 use Rattle.cache_seam.specs.Turns.{Calls}
-use Rattle.cache_seam.specs.Hand.{permits_of, AreAnswers, AreApart, IsSpendable, IsHand}
+use Rattle.cache_seam.specs.Hand.{permits_of, AreAnswers, AreOfTwoTickets, IsSpendable, IsHand}
 use Rattle.cache_seam.proofs.Hands.{step_of, left_of, number_of, epoch_after, hand_of_look, look_answers}
 use Rattle.cache_seam.proofs.StandingHits.{looked_here}
 
@@ -56,13 +56,13 @@ no_tickets s pass id m (k ∷ keys) none =
 
 -- a permit that may be settled already is not for a ticket that the look starts
 apart_by : (how : Option Mark) (s : State) (pass : Pinned) (id : Option (List ℕ)) (keys : List Key) (now : ℕ) (answers : List Found) (left : State) (p : Granted) → bypass_mark s pass (length keys) ≡ how → LooksBy how s pass id keys now answers left
-    → AreAnswers pass id keys answers → AreNew s.journal (tickets_of answers) → MaySettle s p → All (AreApart p) (permits_of answers)
+    → AreAnswers pass id keys answers → AreNew s.journal (tickets_of answers) → MaySettle s p → All (AreOfTwoTickets p) (permits_of answers)
 apart_by (Some m) s pass id keys now answers left p is h answered new may =
-    All-weaker (λ (q : Granted). (t : ℕ) → q.mark ≢ mark.Ticket t) (AreApart p) (λ q none t pt qt same. none t qt) (permits_of answers)
+    All-weaker (λ (q : Granted). (t : ℕ) → q.mark ≢ mark.Ticket t) (AreOfTwoTickets p) (λ q none t pt qt same. none t qt) (permits_of answers)
     (subst (λ (as_given : List Found). All (λ (q : Granted). (t : ℕ) → q.mark ≢ mark.Ticket t) (permits_of as_given)) (sym h.0) (no_tickets s pass id m keys (mark_is_none s pass (length keys) m (sym is))))
 apart_by None s pass id keys now answers left p is h answered new may =
     let here : pass.epoch ≡ s.epoch = looked_here s pass (length keys) is in
-    All-weaker (IsFresh s.journal pass.epoch) (AreApart p)
+    All-weaker (IsFresh s.journal pass.epoch) (AreOfTwoTickets p)
     (λ q fresh t pt qt same.
     let one = fresh t qt in
     let owed = owed_by s p t may pt (same ∙ one.1 ∙ here) in
@@ -96,4 +96,4 @@ hand_grows old new (p ∷ ps) id keys now answers hand h =
     let answered = look_answers old new (pass_of old) id keys now answers h in
     let fresh = look_new h.turn.found (pass_of old) id keys now answers h.turn.left h.is_turn.found_lawful.legal step in
     let apart = apart_by (bypass_mark h.turn.found (pass_of old) (length keys)) h.turn.found (pass_of old) id keys now answers h.turn.left p refl step answered fresh both.0 in
-    (both.1, All-append (AreApart p) ps (permits_of answers) hand.1 apart, hand_grows old new ps id keys now answers hand.2 h)
+    (both.1, All-append (AreOfTwoTickets p) ps (permits_of answers) hand.1 apart, hand_grows old new ps id keys now answers hand.2 h)

@@ -33,8 +33,8 @@ AreAnswers pass id [] (answer ∷ answers) = ⊥
 AreAnswers pass id (key ∷ keys) [] = ⊥
 
 -- the two are not for one ticket
-abbrev pub AreApart : Granted → Granted → Type 0
-AreApart p q = (t : ℕ) → p.mark ≡ mark.Ticket t → q.mark ≡ mark.Ticket t → p.epoch ≡ q.epoch → ⊥
+abbrev pub AreOfTwoTickets : Granted → Granted → Type 0
+AreOfTwoTickets p q = (t : ℕ) → p.mark ≡ mark.Ticket t → q.mark ≡ mark.Ticket t → p.epoch ≡ q.epoch → ⊥
 
 -- the user may settle the permit
 pub record IsSpendable (c : Seen) (p : Granted) : Type 0 where
@@ -45,7 +45,7 @@ pub record IsSpendable (c : Seen) (p : Granted) : Type 0 where
 -- the user may settle the permits, one after another
 abbrev pub IsHand : Seen → List Granted → Type 0
 IsHand c [] = Unit {0}
-IsHand c (p ∷ ps) = IsSpendable c p × All (AreApart p) ps × IsHand c ps
+IsHand c (p ∷ ps) = IsSpendable c p × All (AreOfTwoTickets p) ps × IsHand c ps
 
 -- what was found is the text of an object
 abbrev pub FindObjects : List Found → Type 0

@@ -41,17 +41,17 @@ IsFitting (foreign.Put key id offer now) = OffersObject (report.Got offer) × Is
 -- ONE STEP OF THE SECOND USER, whose number is 1
 
 -- a piece that was not found is settled with the offer
-abbrev pub Closes : Found → State → Offer → State → Type 0
-Closes (found.Hit lookup stored value left_ms private) old offer new = new ≡ old
-Closes (found.Miss lookup permit) old offer new = (settled : Settled) × Step old (Settle permit (report.Got offer)) (Closed settled) new
-Closes (found.Bypass permit) old offer new = (settled : Settled) × Step old (Settle permit (report.Got offer)) (Closed settled) new
+abbrev pub SettlesMiss : Found → State → Offer → State → Type 0
+SettlesMiss (found.Hit lookup stored value left_ms private) old offer new = new ≡ old
+SettlesMiss (found.Miss lookup permit) old offer new = (settled : Settled) × Step old (Settle permit (report.Got offer)) (Closed settled) new
+SettlesMiss (found.Bypass permit) old offer new = (settled : Settled) × Step old (Settle permit (report.Got offer)) (Closed settled) new
 
 -- a look for the key, and a settle at once where it was not found
 pub record Puts (pass : Pinned) (key : Key) (id : Option (List ℕ)) (offer : Offer) (now : ℕ) (old new : State) : Type 0 where
   pub answer : Found
   pub mid : State
   pub looks : Step old (Look pass id (key ∷ []) now) (Looked (answer ∷ [])) mid
-  pub closes : Closes answer mid offer new
+  pub closes : SettlesMiss answer mid offer new
 
 -- the step is done, and the second user has this pass afterwards
 abbrev pub DoesForeign : Foreign → Pinned → State → State → Pinned → Type 0
@@ -75,22 +75,22 @@ abbrev pub steps_of : List (Vec Foreign Global) → List (List Foreign)
 steps_of lists = map (λ (v : Vec Foreign Global). v.items) lists
 
 -- what is known between two calls
-pub record IsReady (s : State) (pass : Pinned) (pinned : ℕ) (begun : Bool) (past : List Event) (second : Pinned) (later : List (List Foreign)) : Type 0 where
+pub record IsBetweenCalls (s : State) (pass : Pinned) (pinned : ℕ) (begun : Bool) (past : List Event) (second : Pinned) (later : List (List Foreign)) : Type 0 where
   pub coherent : IsCoherent (seen_meddled s pinned begun past)
   pub own : begun ≡ true → pass ≡ record { who = 0; epoch = pinned }
   pub number : second.who ≡ 1
   pub fitting : All (All IsFitting) later
 
 -- the journal seen before is kept aside, or the second user did nothing
-abbrev pub IsKept : State → State → ℕ → List Event → List Event → Type 0
-IsKept old found pinned past kept = (kept ≡ (if old.epoch == pinned then old.journal else past)) ⊎ ((found ≡ old) × (kept ≡ past))
+abbrev pub IsSetAside : State → State → ℕ → List Event → List Event → Type 0
+IsSetAside old found pinned past kept = (kept ≡ (if old.epoch == pinned then old.journal else past)) ⊎ ((found ≡ old) × (kept ≡ past))
 
-abbrev pub first_of : List (List Foreign) → List Foreign
-first_of [] = []
-first_of (steps ∷ later) = steps
+abbrev pub first_steps : List (List Foreign) → List Foreign
+first_steps [] = []
+first_steps (steps ∷ later) = steps
 
 -- one call of the first user: the state found is that which the second user's next steps left
 pub record MeddledCall (old : Meddling) (call : Call) (answer : Answer) (new : Meddling) : Type 0 where
   pub calls : Calls old.seen call answer new.seen
-  pub meddles : Meddles (first_of old.later) old.pass old.seen.left calls.turn.found new.pass
+  pub meddles : Meddles (first_steps old.later) old.pass old.seen.left calls.turn.found new.pass
   pub later : new.later ≡ drop 1 old.later

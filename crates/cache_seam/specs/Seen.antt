@@ -4,7 +4,7 @@ use Rattle.cache_terms.specs.declared.events.Event.{Event}
 use Rattle.cache_model.specs.State.{State}
 use Rattle.cache_model.specs.Story.{who_of}
 use Rattle.cache_book.specs.Permits.{Pinned}
-use Rattle.cache_seam.specs.Objects.{IsLawful}
+use Rattle.cache_seam.specs.Objects.{KeepsObjects}
 
 -- the state that a call found, and the state that it left
 pub record Visit : Type 0 where
@@ -37,4 +37,4 @@ pub record IsCoherent (c : Seen) : Type 0 where
   pub reached : c.pinned ≤ c.left.epoch
   pub current : c.pinned ≡ c.left.epoch → c.journal ≡ c.left.journal
   pub over : c.pinned < c.left.epoch → All (λ e. who_of e ≢ c.number) c.left.journal
-  pub lawful : IsLawful c.left
+  pub lawful : KeepsObjects c.left

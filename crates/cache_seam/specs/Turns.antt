@@ -4,7 +4,7 @@ use Rattle.std.specs.Option.{option_map}
 use Rattle.cache_model.specs.State.{State}
 use Rattle.cache_model.specs.Story.{Without}
 use Rattle.cache_book.specs.Calls.{Call, Answer, Step, MayCall, Begin, Look, Settle, Invalidate, Tally}
-use Rattle.cache_seam.specs.Objects.{IsLawful, CallOffersObject, HasObject}
+use Rattle.cache_seam.specs.Objects.{KeepsObjects, CallOffersObject, HasObject}
 use Rattle.cache_seam.specs.Seen.{Seen, Visit, IsCoherent, pass_of}
 
 -- one call: the state that it found, what was asked and answered, and the state that it left
@@ -63,7 +63,7 @@ pub record IsTurn (c : Seen) (t : Turn) : Type 0 where
   pub own : IsOwnCall c t.call
   pub goes_on : Without c.left t.found c.number
   pub alone : c.lone ≡ true → t.found ≡ c.left
-  pub found_lawful : IsLawful t.found
+  pub found_lawful : KeepsObjects t.found
   pub may : MayCall t.found t.call
   pub offers : CallOffersObject t.call
   pub step : Step t.found t.call t.answer t.left
@@ -90,7 +90,7 @@ AreTurns c [] = Unit {0}
 AreTurns c (t ∷ ts) = IsTurn c t × AreTurns (seen_after c t) ts
 
 -- from old to new the turns were taken, and no others
-pub record Takes (old : Seen) (turns : List Turn) (new : Seen) : Type 0 where
+pub record TakesTurns (old : Seen) (turns : List Turn) (new : Seen) : Type 0 where
   pub are_turns : AreTurns old turns
   pub after : new ≡ seen_after_all old turns
 

@@ -34,7 +34,7 @@ pub trait Cache {
             (call.Look (pass_of (seen self.old)) (option_copied id.entry) asks.items now)
             call.OutOfMemory (seen self.new)) };
 
-    /// Spends a permit. Takes no memory.
+    /// Spends a permit. Takes memory only for what is to be stored: where none is found, the outcome is Memory.
     fn settle(&mut self, fill: Fill) -> Settled
         requires own { fill.permit.who ≡ (seen self.old).number }
         requires begun { fill.permit.epoch ≤ (seen self.old).left.epoch }

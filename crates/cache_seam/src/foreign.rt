@@ -2,7 +2,7 @@ ghost use Rattle.std.specs.Prelude.{◌≡◌, ◌⊎◌, [], ◌∷◌, All, dr
 ghost use Rattle.cache_book.specs.Owed.{AreOwed};
 ghost use Rattle.cache_book.specs.Settling.{IsInRange};
 ghost use Rattle.cache_book.specs.declared.permit.Report.TheVariants as report;
-ghost use Rattle.cache_seam.specs.Meddling.{IsFitting, Closes, Puts, MayDo, Meddles, IsKept, steps_of, first_of};
+ghost use Rattle.cache_seam.specs.Meddling.{IsFitting, SettlesMiss, Puts, MayDo, Meddles, IsSetAside, steps_of, first_steps};
 
 use crate::copies::copy_events;
 use cache_book::{Book, Fill, Found, Notice, Pass, Report};
@@ -38,7 +38,7 @@ fn close(book: &mut Book, answers: Vec<Found>, offer: Offer)
     requires owed { AreOwed book.old answers.items }
     requires one { length answers.items ≡ 1 }
     requires range { IsInRange (report.Got offer) }
-    ensures { (answer : _) × (answers.items ≡ answer ∷ []) × Closes answer book.old offer book.new }
+    ensures { (answer : _) × (answers.items ≡ answer ∷ []) × SettlesMiss answer book.old offer book.new }
 {
     let mut answers = answers;
     let answer = answers.pop();
@@ -134,10 +134,10 @@ pub(crate) fn meddle_next(
     past: &mut Vec<Event>,
 )
     requires { All (All IsFitting) (steps_of later.old.items) }
-    ensures meddles { Meddles (first_of (steps_of later.old.items)) pass.old book.old book.new
+    ensures meddles { Meddles (first_steps (steps_of later.old.items)) pass.old book.old book.new
         pass.new }
     ensures later { steps_of later.new.items ≡ drop 1 (steps_of later.old.items) }
-    ensures past { IsKept book.old book.new pinned past.old.items past.new.items }
+    ensures past { IsSetAside book.old book.new pinned past.old.items past.new.items }
 {
     let Some(steps) = later.pop_front() else {
         return;

@@ -8,45 +8,45 @@ ghost use Rattle.cache_book.specs.Permits.{Pinned};
 ghost use Rattle.cache_book.specs.Calls.{Run, Look, Looked};
 ghost use Rattle.cache_seam.specs.Objects.{IsObjectText};
 ghost use Rattle.cache_seam.specs.Seen.{Seen, IsCoherent, pass_of};
-ghost use Rattle.cache_seam.specs.Turns.{Turn, Takes, Calls, KeepObjects};
+ghost use Rattle.cache_seam.specs.Turns.{Turn, TakesTurns, Calls, KeepObjects};
 ghost use Rattle.cache_seam.specs.Hand.{FindObjects, IsHand, permits_of};
 ghost use Rattle.cache_seam.specs.Chains.{own_events, added_by, seen_in, calls_of, answers_of, visits_of, AreFronts};
 
 /// No call changes the user's number, its home, or whether it is alone.
 pub fn users_stay()
-    ensures { (old new : Seen) (turns : List Turn) → Takes old turns new
+    ensures { (old new : Seen) (turns : List Turn) → TakesTurns old turns new
         → (new.number ≡ old.number) × (new.home ≡ old.home) × (new.lone ≡ old.lone) }
 {}
 
 /// A trace that is told gains just the turns.
 pub fn turns_are_told()
-    ensures { (old new : Seen) (turns : List Turn) → Takes old turns new
+    ensures { (old new : Seen) (turns : List Turn) → TakesTurns old turns new
         → new.trace ≡ option_map (λ visits. visits ++ visits_of turns) old.trace }
 {}
 
 /// Where nobody else steps on the book, the turns are a run from the state that was left before.
 pub fn lone_turns_are_a_run()
-    ensures { (old new : Seen) (turns : List Turn) → old.lone ≡ true → Takes old turns new
+    ensures { (old new : Seen) (turns : List Turn) → old.lone ≡ true → TakesTurns old turns new
         → Run old.left (calls_of turns) (answers_of turns) new.left }
 {}
 
 /// In the epoch to which it is pinned the user's events are those that it had seen there before, and then those that
 /// its turns appended, each once and in order.
 pub fn own_events_are_added()
-    ensures { (old new : Seen) (turns : List Turn) → Takes old turns new
+    ensures { (old new : Seen) (turns : List Turn) → TakesTurns old turns new
         → own_events new.number new.journal ≡ own_events old.number (seen_in new.pinned old)
         ++ added_by new.pinned (visits_of turns) }
 {}
 
 /// Within an epoch a later seen journal has the earlier one as a prefix.
 pub fn seen_journals_grow()
-    ensures { (old new : Seen) (turns : List Turn) → Takes old turns new → new.pinned ≡ old.pinned
+    ensures { (old new : Seen) (turns : List Turn) → TakesTurns old turns new → new.pinned ≡ old.pinned
         → (more : List Event) × (new.journal ≡ old.journal ++ more) }
 {}
 
 /// The journal seen in the end has each journal of its epoch that a turn left as a prefix.
 pub fn left_journals_are_fronts()
-    ensures { (old new : Seen) (turns : List Turn) → Takes old turns new
+    ensures { (old new : Seen) (turns : List Turn) → TakesTurns old turns new
         → AreFronts new.pinned turns new.journal }
 {}
 
@@ -58,7 +58,7 @@ pub fn shown_values_are_objects()
 
 /// So do those in each state that a turn found, and in each that it left.
 pub fn turns_keep_objects()
-    ensures { (old new : Seen) (turns : List Turn) → Takes old turns new → KeepObjects turns }
+    ensures { (old new : Seen) (turns : List Turn) → TakesTurns old turns new → KeepObjects turns }
 {}
 
 /// So do those that a look finds.

@@ -21,7 +21,7 @@ pub struct Meddled {
 }
 
 impl Model for Meddled {
-    ghost use Rattle.cache_seam.specs.Meddling.{Meddling, IsReady, seen_meddled, steps_of};
+    ghost use Rattle.cache_seam.specs.Meddling.{Meddling, IsBetweenCalls, seen_meddled, steps_of};
 
     ghost Value = { Meddling };
 
@@ -32,7 +32,7 @@ impl Model for Meddled {
       later = steps_of m.later.items;
     } };
 
-    ghost invariant = { λ m. IsReady m.book m.pass m.pinned m.begun m.past.items m.second
+    ghost invariant = { λ m. IsBetweenCalls m.book m.pass m.pinned m.begun m.past.items m.second
         (steps_of m.later.items) };
 }
 

@@ -17,14 +17,14 @@ use Rattle.line_base.specs.declared.line.LineFault.TheVariants as fault
 use Rattle.line_base.specs.declared.script.Told.{Told}
 use Rattle.flow_base.specs.Logs.{Grows}
 use Rattle.line_base.proofs.Gaining.{grows_none}
-use Rattle.line_base.specs.Lines.{Named, Entry, Fetches, IsCounted, names_of, name_of, failures, failed_by}
+use Rattle.line_base.specs.Lines.{PermitName, Entry, Fetches, IsCounted, names_of, name_of, failures, failed_by}
 use Rattle.line_base.specs.declared.script.Scripted.{Scripted}
 use Rattle.line_base.specs.Foretold.{answer_told, answer_for, left_for}
-use Rattle.line_base.specs.Told.{names_told, entries_told, entry_of, script_line, Script, Serves}
+use Rattle.line_base.specs.Told.{names_told, entries_told, entry_of, script_line, Script, ServesScript}
 
 pub names_push : (ns : List (ℕ × Mark × Key)) (n : ℕ × Mark × Key) → names_told (ns ++ n ∷ []) ≡ names_told ns ++ record { epoch = n.0; mark = n.1; key = n.2 } ∷ []
 names_push [] n = refl
-names_push (x ∷ ns) n = ap (λ (l : List Named). record { epoch = x.0; mark = x.1; key = x.2 } ∷ l) (names_push ns n)
+names_push (x ∷ ns) n = ap (λ (l : List PermitName). record { epoch = x.0; mark = x.1; key = x.2 } ∷ l) (names_push ns n)
 
 pub names_step : (p : Granted) (ps : List Granted) → names_of (p ∷ ps) ≡ name_of p ∷ names_of ps
 names_step p ps = refl
@@ -124,8 +124,8 @@ tells_answer s permits call (Some reply) t first is =
 
 pub naming : (ns : List (ℕ × Mark × Key)) (n : ℕ × Mark × Key) (p : Granted) (rest ps all : List Granted) → ps ≡ p ∷ rest → record { epoch = n.0; mark = n.1; key = n.2 } ≡ name_of p → names_told ns ++ names_of ps ≡ names_of all → names_told (ns ++ n ∷ []) ++ names_of rest ≡ names_of all
 naming ns n p rest ps all split is h =
-    ap (λ (l : List Named). l ++ names_of rest) (names_push ns n) ∙ append_assoc (names_told ns) (record { epoch = n.0; mark = n.1; key = n.2 } ∷ []) (names_of rest)
-    ∙ ap (λ (x : Named). names_told ns ++ (x ∷ names_of rest)) is ∙ ap (λ (l : List Granted). names_told ns ++ names_of l) (sym split) ∙ h
+    ap (λ (l : List PermitName). l ++ names_of rest) (names_push ns n) ∙ append_assoc (names_told ns) (record { epoch = n.0; mark = n.1; key = n.2 } ∷ []) (names_of rest)
+    ∙ ap (λ (x : PermitName). names_told ns ++ (x ∷ names_of rest)) is ∙ ap (λ (l : List Granted). names_told ns ++ names_of l) (sym split) ∙ h
 
 failed_one : (sub : ℕ) (t : Told) → failures sub (entry_of t ∷ []) ≡ (if (t.call.sub == sub) && is_none t.reply then 1 else 0)
 failed_one sub t = by_cases (t.call.sub == sub) t.reply
@@ -195,7 +195,7 @@ pub all_left : (sub : ℕ) (xs : List Scripted) → NoneOf sub xs → left_for s
 all_left sub [] none = refl
 all_left sub (x ∷ xs) none = ap (λ (b : Bool). if b then xs else x ∷ left_for sub xs) none.0 ∙ ap (λ (l : List Scripted). x ∷ l) (all_left sub xs none.1)
 
-pub serves_answer : (old new : Script) (permits : List Granted) (call : calls.Call) (answer : Result Reply LineFault) (o : Option Reply) → answer ≡ answer_told o → o ≡ answer_for call.sub old.replies → new ≡ record { replies = left_for call.sub old.replies; log = old.log ++ record { permits = names_of permits; call = call; answer = answer } ∷ [] } → Serves old permits call answer new
+pub serves_answer : (old new : Script) (permits : List Granted) (call : calls.Call) (answer : Result Reply LineFault) (o : Option Reply) → answer ≡ answer_told o → o ≡ answer_for call.sub old.replies → new ≡ record { replies = left_for call.sub old.replies; log = old.log ++ record { permits = names_of permits; call = call; answer = answer } ∷ [] } → ServesScript old permits call answer new
 serves_answer old new permits call (Ok reply) o told is after = record { answer_is = told ∙ ap answer_told is; after = after }
 serves_answer old new permits call (Err fault.Failed) o told is after = record { answer_is = told ∙ ap answer_told is; after = after }
 serves_answer old new permits call (Err (fault.TooLong n)) o told is after = record { answer_is = told ∙ ap answer_told is; after = after }

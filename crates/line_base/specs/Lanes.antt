@@ -13,7 +13,7 @@ pub record LaneOf (L : Type 0) : Type 0 where
   pub answers : List (Result Reply LineFault)
 
 -- what a fetch asks for: at least one piece, and all of the call's subgraph
-pub record IsAsked (work : Work) : Type 0 where
+pub record AsksRightly (work : Work) : Type 0 where
   pub some : work.permits.items ≢ []
   pub named : All (λ p. p.key.sub ≡ work.call.name) work.permits.items
 

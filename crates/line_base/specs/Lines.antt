@@ -13,21 +13,21 @@ use Rattle.line_base.specs.Foretold.{IsForetold}
 use Rattle.flow_base.specs.Logs.{Grows}
 
 -- what names a permit to the outside
-pub record Named : Type 0 where
+pub record PermitName : Type 0 where
   pub epoch : ℕ
   pub mark : Mark
   pub key : Key
 
-abbrev pub name_of : Granted → Named
+abbrev pub name_of : Granted → PermitName
 name_of p = record { epoch = p.epoch; mark = p.mark; key = p.key }
 
-abbrev pub names_of : List Granted → List Named
+abbrev pub names_of : List Granted → List PermitName
 names_of [] = []
 names_of (p ∷ ps) = name_of p ∷ names_of ps
 
 -- one fetch: the permits under which it was made, what was asked, and what came
 pub record Entry : Type 0 where
-  pub permits : List Named
+  pub permits : List PermitName
   pub call : calls.Call
   pub answer : Result Reply LineFault
 
@@ -62,11 +62,11 @@ abbrev pub IsCounted : Line → Type 0
 IsCounted line = IfSome line.log (λ entries. line.calls ≡ length entries)
 
 -- a fault comes only for its cause
-abbrev pub HasCause : Line → calls.Call → Result Reply LineFault → Line → Type 0
-HasCause old call (Err fault.Failed) new = Rose (old.faults call.sub) (new.faults call.sub)
-HasCause old call (Err (fault.TooLong n)) new = 16384 < n
-HasCause old call (Err fault.Memory) new = (new.log ≡ old.log) × (new.calls ≡ old.calls)
-HasCause old call (Ok reply) new = Unit {0}
+abbrev pub HasLineCause : Line → calls.Call → Result Reply LineFault → Line → Type 0
+HasLineCause old call (Err fault.Failed) new = Rose (old.faults call.sub) (new.faults call.sub)
+HasLineCause old call (Err (fault.TooLong n)) new = 16384 < n
+HasLineCause old call (Err fault.Memory) new = (new.log ≡ old.log) × (new.calls ≡ old.calls)
+HasLineCause old call (Ok reply) new = Unit {0}
 
 -- what a fetch does to the line
 pub record Fetches (old : Line) (permits : List Granted) (call : calls.Call) (answer : Result Reply LineFault) (new : Line) : Type 0 where
@@ -75,7 +75,7 @@ pub record Fetches (old : Line) (permits : List Granted) (call : calls.Call) (an
   pub counted : IsCounted new
   pub calls : new.calls ≡ calls_after old.calls (told_of (record { permits = names_of permits; call = call; answer = answer }))
   pub later : (sub : ℕ) → old.faults sub ≤ new.faults sub
-  pub cause : HasCause old call answer new
+  pub cause : HasLineCause old call answer new
   pub foretold : IsForetold old.foretold call answer new.foretold
 
 -- CHAINS OF FETCHES

@@ -10,9 +10,9 @@ use Rattle.line_base.specs.declared.line.Call as calls
 use Rattle.line_base.specs.declared.script.Scripted.{Scripted}
 use Rattle.line_base.specs.declared.script.Told.{Told}
 use Rattle.line_base.specs.Foretold.{answer_told, answer_for, left_for}
-use Rattle.line_base.specs.Lines.{Named, Entry, Line, names_of, failures}
+use Rattle.line_base.specs.Lines.{PermitName, Entry, Line, names_of, failures}
 
-abbrev pub names_told : List (ℕ × Mark × Key) → List Named
+abbrev pub names_told : List (ℕ × Mark × Key) → List PermitName
 names_told [] = []
 names_told (n ∷ ns) = record { epoch = n.0; mark = n.1; key = n.2 } ∷ names_told ns
 
@@ -43,8 +43,8 @@ pub record ServesOne (old : Script) (permits : List Granted) (call : calls.Call)
   pub after : new ≡ record { replies = left_for call.sub old.replies; log = old.log ++ record { permits = names_of permits; call = call; answer = answer } ∷ [] }
 
 -- or it finds no memory, and nothing has changed
-abbrev pub Serves : Script → List Granted → calls.Call → Result Reply LineFault → Script → Type 0
-Serves old permits call (Ok reply) new = ServesOne old permits call (Ok reply) new
-Serves old permits call (Err fault.Failed) new = ServesOne old permits call (Err fault.Failed) new
-Serves old permits call (Err (fault.TooLong n)) new = ServesOne old permits call (Err (fault.TooLong n)) new
-Serves old permits call (Err fault.Memory) new = new ≡ old
+abbrev pub ServesScript : Script → List Granted → calls.Call → Result Reply LineFault → Script → Type 0
+ServesScript old permits call (Ok reply) new = ServesOne old permits call (Ok reply) new
+ServesScript old permits call (Err fault.Failed) new = ServesOne old permits call (Err fault.Failed) new
+ServesScript old permits call (Err (fault.TooLong n)) new = ServesOne old permits call (Err (fault.TooLong n)) new
+ServesScript old permits call (Err fault.Memory) new = new ≡ old

@@ -1,5 +1,5 @@
 ghost use Rattle.std.specs.Prelude.{◌≡◌, ◌≤◌, [], length, vec_capacity, All};
-ghost use Rattle.line_base.specs.Lanes.{IsAsked, AreFetched};
+ghost use Rattle.line_base.specs.Lanes.{AsksRightly, AreFetched};
 
 use crate::{Call, Line, LineFault};
 use cache_book::Permit;
@@ -27,7 +27,7 @@ pub struct Lane<L: Line> {
 
 impl<L: Line> Model for Lane<L> {
     ghost use Rattle.std.specs.Prelude.{◌≤◌, length, vec_capacity, All};
-    ghost use Rattle.line_base.specs.Lanes.{LaneOf, IsAsked};
+    ghost use Rattle.line_base.specs.Lanes.{LaneOf, AsksRightly};
 
     ghost Value = { LaneOf L };
 
@@ -35,12 +35,12 @@ impl<L: Line> Model for Lane<L> {
         { line = l.line; works = l.works.items; answers = l.answers.items } };
 
     ghost invariant = { λ l. (length l.works.items ≤ vec_capacity l.answers)
-        × All IsAsked l.works.items };
+        × All AsksRightly l.works.items };
 }
 
 /// Fetches each work over the line, in order.
 fn fetch_all<L: Line>(line: &mut L, works: &[Work], answers: &mut Vec<Result<Reply, LineFault>>)
-    requires asked { All IsAsked works.now }
+    requires asked { All AsksRightly works.now }
     requires room { length works.now ≤ vec_capacity answers.old }
     requires none { answers.old.items ≡ [] }
     ensures fetched { AreFetched (L.line line.old) works.now answers.new.items (L.line line.new) }
@@ -54,7 +54,7 @@ fn fetch_all<L: Line>(line: &mut L, works: &[Work], answers: &mut Vec<Result<Rep
 
 impl<L: Line> Lane<L> {
     ghost use Rattle.std.specs.Prelude.{◌≡◌, [], ◌∷◌, ◌++◌, OnOk, IfErr};
-    ghost use Rattle.line_base.specs.Lanes.{IsAsked, Ran};
+    ghost use Rattle.line_base.specs.Lanes.{AsksRightly, Ran};
 
     /// A lane without work.
     pub fn of(alloc: Global, line: L) -> Lane<L>
@@ -70,7 +70,7 @@ impl<L: Line> Lane<L> {
     /// Puts one work last, and takes the room for it and its answer. For want of memory it hands the work back, and the
     /// lane is as before.
     pub fn add(&mut self, work: Work) -> Result<(), Unplaced>
-        requires { IsAsked work }
+        requires { AsksRightly work }
         ensures ok { OnOk result (self.new
             ≡ record self.old { works = self.old.works ++ work ∷ [] }) }
         ensures err { IfErr result (λ u. (u.work ≡ work) × (self.new ≡ self.old)) }

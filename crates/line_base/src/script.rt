@@ -199,7 +199,7 @@ pub fn telling(
 impl Line for ScriptLine {
     ghost use Rattle.std.specs.Prelude.{◌≡◌};
     ghost use Rattle.line_base.specs.Lines.{Fetches};
-    ghost use Rattle.line_base.specs.Told.{script_line, Serves};
+    ghost use Rattle.line_base.specs.Told.{script_line, ServesScript};
 
     ghost line = { λ s. script_line s };
 
@@ -207,7 +207,7 @@ impl Line for ScriptLine {
     fn fetch(&mut self, permits: &[Permit], call: &Call) -> Result<Reply, LineFault>
         ensures fetches { Fetches (script_line self.old) permits.now call.now result
             (script_line self.new) }
-        ensures serves { Serves self.old permits.now call.now result self.new }
+        ensures serves { ServesScript self.old permits.now call.now result self.new }
     {
         match telling(self.alloc, permits, call, peek(&self.replies, call.sub)) {
             Ok(told) => match tell(&mut self.log, told) {

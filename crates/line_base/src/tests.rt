@@ -1,5 +1,5 @@
 ghost use Rattle.std.specs.Prelude.{◌≡◌, [], All, length};
-ghost use Rattle.line_base.specs.Lanes.{IsAsked};
+ghost use Rattle.line_base.specs.Lanes.{AsksRightly};
 
 use super::*;
 use cache_book::{Book, Fill, Found, Pass, Permit, Report};
@@ -76,7 +76,7 @@ fn spend<R: Abort + AllocGlobal>(rt: &R, book: &mut Book, permit: Permit) {
 }
 
 fn work<R: Abort + AllocGlobal>(rt: &R, book: &mut Book, number: u64, sub: &str) -> Work
-    ensures { IsAsked result }
+    ensures { AsksRightly result }
 {
     let permit = permit(rt, book, sub);
     let name = permit.key().sub.copy().expect(rt, "memory");
@@ -110,7 +110,7 @@ fn scripted<R: Abort + AllocGlobal>(rt: &R, sub: u64, status: u16) -> Scripted {
 }
 
 fn place<R: Abort + AllocGlobal>(rt: &R, lane: &mut Lane<ScriptLine>, work: Work)
-    requires asked { IsAsked work }
+    requires asked { AsksRightly work }
     requires fresh { lane.old.answers ≡ [] }
     ensures { lane.new.answers ≡ [] }
 {

@@ -99,7 +99,10 @@ due_by_cover J s got a b c None due none is = record { cacheable = due; uncovere
 due_by_cover J s got a b c (Some p) due last is = absurd (cc is)
 
 due_by_why : (limits : Limits) (J : List Event) (s : Started) (got : Got) (o : Option Why) → why_of got.marks got.verdict got.tags (is_some s.id) ≡ o → IsDueBy o limits J s got outcome.Stored → WasDue J s got
-due_by_why limits J s got None is h = due_by_cover J s got (bytes J) got.size limits.bytes h.0 is h.1 h.2
+due_by_why limits J s got None is h = elim h.2 [
+  | inl same ↦ due_by_cover J s got (bytes J) got.size limits.bytes h.0 is h.1 same
+  | inr other ↦ absurd (cc other.1)
+]
 due_by_why limits J s got (Some w) is h = absurd (cc h)
 
 -- PRIVATE PIECES OF NOBODY ARE NOT KEPT

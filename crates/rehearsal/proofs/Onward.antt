@@ -1,5 +1,6 @@
 -- From each of its fronts a script goes on, to its end or to a line that is refused.
-use Rattle.std.proofs.Common.{◌≡◌, ◌≢◌, inl, inr, ℕ, ◌+◌, Bool, List, [], ◌∷◌, ◌++◌, Option, Some, None, refl, sym, subst}
+use Rattle.std.proofs.Common.{◌≡◌, inl, inr, ℕ, ◌+◌, Bool, List, [], ◌∷◌, ◌++◌, Option, Some, None, refl, ap, sym, ◌∙◌, subst, append_assoc}
+use Rattle.std.proofs.lemmas.List.{append-nil}
 use Rattle.std.specs.FinMap as map
 use Rattle.cache_terms.specs.declared.keys.Key.{Key}
 use Rattle.cache_terms.specs.declared.keys.Target.{Target}
@@ -35,10 +36,9 @@ use Rattle.script_lines.specs.declared.replies.Cause.{Cause}
 use Rattle.script_lines.specs.declared.replies.Cause.TheVariants as cause
 use Rattle.rehearsal.specs.Scene.{Scene, Permits, opening, handed, with_permit}
 use Rattle.rehearsal.specs.Replied.{refusal}
-use Rattle.rehearsal.specs.Acts.{DoesBegin, DoesLook, DoesSettle, DoesVoid, DoesTally, Does, Lacks, Plays, Refuses, offered, stated}
+use Rattle.rehearsal.specs.Acts.{DoesBegin, DoesLook, DoesSettle, DoesVoid, DoesTally, Does, Lacks, Plays, RefusesLine, offered, stated}
 use Rattle.rehearsal.specs.InHand.{IsReady, IsNew, IsTakeable}
 use Rattle.rehearsal.specs.Runs.{Extent, Whole, Refused, Front, Runs, IsComplete, IsDeadEnd}
-use Rattle.rehearsal.proofs.Determined.{front_within}
 use Rattle.rehearsal.proofs.Holding.{settle_ready, empty_ready, insert_ready, looks_one, looks_ready, begun_ready, voids_ready}
 
 -- what holds of a scene between two lines: its book is legal, and each permit in hand may be settled
@@ -136,7 +136,7 @@ IsIdle old c = (reply : Reply) (new : Scene) → Does old c reply new → ⊥
 begin_goes : (old : Scene) (who : ℕ) → IsSound old → IsIdle old (command.Begin who) → ⊥
 begin_goes old who sound idle = not_stuck old.book (call.Begin who) sound.legal tt by_answer
   where
-    by_answer : (answer : Answer) (new : State) → answer ≢ call.OutOfMemory → Step old.book (call.Begin who) answer new → ⊥
+    by_answer : (answer : Answer) (new : State) → (call.IsWantOfMemory answer → ⊥) → Step old.book (call.Begin who) answer new → ⊥
     by_answer (call.Begun pass) new given step = idle _ (record { book = new; passes = map.insert old.passes who pass; hand = old.hand }) (record { pass = pass; step = step; passes = refl; hand = refl; says = refl })
     by_answer (call.Looked fs) new given step = step
     by_answer (call.Closed c) new given step = step
@@ -164,13 +164,13 @@ look_goes old who id now key sound idle who_lacks = by_pass (map.get old.passes 
               says = refl;
             })
 
-        by_answer : (answer : Answer) (new : State) → answer ≢ call.OutOfMemory → Step old.book (call.Look pass id (key ∷ []) now) answer new → ⊥
+        by_answer : (answer : Answer) (new : State) → (call.IsWantOfMemory answer → ⊥) → Step old.book (call.Look pass id (key ∷ []) now) answer new → ⊥
         by_answer (call.Looked fs) new given step = looked fs new step
         by_answer (call.Begun p) new given step = step
         by_answer (call.Closed c) new given step = step
         by_answer (call.Voided v) new given step = step
         by_answer (call.Tallied t) new given step = step
-        by_answer call.OutOfMemory new given step = given refl
+        by_answer call.OutOfMemory new given step = given tt
 
 settle_goes : (old : Scene) (epoch ticket : ℕ) (by : Report) → IsSound old → IsInRange by → ((reply : Reply) (new : Scene) → DoesSettle old epoch ticket by reply new → ⊥) → (map.get old.hand (epoch, ticket) ≡ None → ⊥) → ⊥
 settle_goes old epoch ticket by sound range idle ticket_lacks = by_permit (map.get old.hand (epoch, ticket)) refl
@@ -179,7 +179,7 @@ settle_goes old epoch ticket by sound range idle ticket_lacks = by_permit (map.g
     by_permit None is = ticket_lacks is
     by_permit (Some permit) is = not_stuck old.book (call.Settle permit by) sound.legal ((sound.ready (epoch, ticket) permit is).may, range) by_answer
       where
-        by_answer : (answer : Answer) (new : State) → answer ≢ call.OutOfMemory → Step old.book (call.Settle permit by) answer new → ⊥
+        by_answer : (answer : Answer) (new : State) → (call.IsWantOfMemory answer → ⊥) → Step old.book (call.Settle permit by) answer new → ⊥
         by_answer (call.Closed settled) new given step = idle _ (record { book = new; passes = old.passes; hand = map.remove old.hand (epoch, ticket) }) (record { permit = permit; held = is; settled = settled; step = step; passes = refl; hand = refl; says = refl })
         by_answer (call.Begun p) new given step = step
         by_answer (call.Looked fs) new given step = step
@@ -190,7 +190,7 @@ settle_goes old epoch ticket by sound range idle ticket_lacks = by_permit (map.g
 void_goes : (old : Scene) (who : ℕ) (target : Target) → IsSound old → IsIdle old (command.Void who target) → ⊥
 void_goes old who target sound idle = not_stuck old.book (call.Invalidate who target) sound.legal tt by_answer
   where
-    by_answer : (answer : Answer) (new : State) → answer ≢ call.OutOfMemory → Step old.book (call.Invalidate who target) answer new → ⊥
+    by_answer : (answer : Answer) (new : State) → (call.IsWantOfMemory answer → ⊥) → Step old.book (call.Invalidate who target) answer new → ⊥
     by_answer (call.Voided v) new given step = idle _ (record { book = new; passes = old.passes; hand = old.hand }) (record { answer = v; step = step; passes = refl; hand = refl; says = refl })
     by_answer (call.Begun p) new given step = step
     by_answer (call.Looked fs) new given step = step
@@ -201,7 +201,7 @@ void_goes old who target sound idle = not_stuck old.book (call.Invalidate who ta
 tally_goes : (old : Scene) → IsSound old → IsIdle old command.Tally → ⊥
 tally_goes old sound idle = not_stuck old.book call.Tally sound.legal tt by_answer
   where
-    by_answer : (answer : Answer) (new : State) → answer ≢ call.OutOfMemory → Step old.book call.Tally answer new → ⊥
+    by_answer : (answer : Answer) (new : State) → (call.IsWantOfMemory answer → ⊥) → Step old.book call.Tally answer new → ⊥
     by_answer (call.Tallied t) new given step = idle _ (record { book = new; passes = old.passes; hand = old.hand }) (record { answer = t; step = step; passes = refl; hand = refl; says = refl })
     by_answer (call.Begun p) new given step = step
     by_answer (call.Looked fs) new given step = step
@@ -224,7 +224,7 @@ command_goes line command.Tally old says sound idle no_who no_ticket = tally_goe
 
 -- NO SCRIPT IS STUCK
 
-line_goes : (old : Scene) (line : List ℕ) → IsSound old → ((text : List ℕ) (new : Scene) → Plays old line text new → ⊥) → ((c : Cause) → Refuses old line c → ⊥) → ⊥
+line_goes : (old : Scene) (line : List ℕ) → IsSound old → ((text : List ℕ) (new : Scene) → Plays old line text new → ⊥) → ((c : Cause) → RefusesLine old line c → ⊥) → ⊥
 line_goes old line sound idle refused = refused cause.Word (
   λ quiet. idle [] old (inl (quiet, refl, refl)),
   λ c says. command_goes (words line) c old says sound (λ reply new does. idle (reply_text reply) new (inr (c, reply, says, does, refl))) (λ lacks. refused cause.Who (c, says, lacks)) (λ lacks. refused cause.Ticket (c, says, lacks)),
@@ -236,8 +236,13 @@ lines_go number s (line ∷ lines) sound none = line_goes s line sound
     (λ reply next plays. lines_go (number + 1) next lines (plays_sound s line reply next sound plays) (λ out extent complete runs. none (reply ++ out) extent complete (inr (reply, out, next, plays, runs, refl))))
     (λ c refused. none (refusal number c) Refused tt (inl (c, refused, refl)))
 
--- each front is the front of a whole or a refused run
+-- from each front a whole or a refused run goes on
+front_goes_on : (number : ℕ) (s : Scene) (lines : List (List ℕ)) (out : List ℕ) → IsSound s → Runs number s lines out Front → IsDeadEnd number s lines out → ⊥
+front_goes_on number s [] out sound front dead = dead [] Whole tt (append-nil out ∙ front)
+front_goes_on number s (line ∷ lines) out sound (inl none) dead = lines_go number s (line ∷ lines) sound (λ other extent complete runs.
+    dead other extent complete (subst (λ (l : List ℕ). Runs number s (line ∷ lines) l extent) (sym (ap (λ (l : List ℕ). l ++ other) none)) runs))
+front_goes_on number s (line ∷ lines) out sound (inr run) dead = front_goes_on (number + 1) (run.2) lines (run.1) (plays_sound s line (run.0) (run.2) sound run.3) run.4 (λ more extent complete runs.
+    dead more extent complete (inr (run.0, run.1 ++ more, run.2, run.3, runs, ap (λ (l : List ℕ). l ++ more) run.5 ∙ append_assoc (run.0) (run.1) more)))
+
 pub front_goes : (limits : Limits) (lines : List (List ℕ)) (out : List ℕ) → IsWithinRanges limits → Runs 1 (opening limits) lines out Front → IsDeadEnd 1 (opening limits) lines out → ⊥
-front_goes limits lines out ranges front dead = lines_go 1 (opening limits) lines (opening_sound limits ranges) (λ other extent complete runs.
-    let more = front_within 1 (opening limits) lines out other extent complete front runs in
-    dead (more.0) extent complete (subst (λ (l : List ℕ). Runs 1 (opening limits) lines l extent) more.1 runs))
+front_goes limits lines out ranges front dead = front_goes_on 1 (opening limits) lines out (opening_sound limits ranges) front dead

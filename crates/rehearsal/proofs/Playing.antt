@@ -10,9 +10,9 @@ use Rattle.rehearsal.specs.Scene.{Scene}
 use Rattle.rehearsal.specs.Replied.{refusal}
 use Rattle.script_lines.specs.declared.replies.Cause.{Cause}
 use Rattle.rehearsal.specs.Outside.{Output}
-use Rattle.rehearsal.specs.Acts.{Plays, Refuses, offered}
+use Rattle.rehearsal.specs.Acts.{Plays, RefusesLine, offered}
 use Rattle.rehearsal.specs.Runs.{Extent, Whole, Refused, Front, Runs}
-use Rattle.rehearsal.specs.Answering.{Puts, PlaysLine, Carries, CarriesSettle}
+use Rattle.rehearsal.specs.Answering.{PutsText, PlaysLine, Carries, CarriesSettle}
 use Rattle.rehearsal.specs.declared.stage.Played.{Played}
 use Rattle.rehearsal.specs.declared.stage.Played.TheVariants as played
 use Rattle.script_lines.specs.declared.commands.Command.TheVariants as command
@@ -69,7 +69,7 @@ line_ended s lines done m t line rest next a b c ending.SinkFailed goes put late
     (rose_later a.faults b.faults c.faults later rose, (done ++ refusal m cut.0, Refused, goes (refusal m cut.0) Refused (inl (cut.0, cut.1, refl)), front_later a.written b.written c.written done (refusal m cut.0) put cut.2))
 
 -- a line that is carried out, and whose reply was put
-pub replied : (t : Scene) (line text : List ℕ) (m : ℕ) (next : Scene) (a b : Output) (o : Option Ending) → Plays t line text next → Puts text a b o → PlaysLine t line m next a b o
+pub replied : (t : Scene) (line text : List ℕ) (m : ℕ) (next : Scene) (a b : Output) (o : Option Ending) → Plays t line text next → PutsText text a b o → PlaysLine t line m next a b o
 replied t line text m next a b None plays puts = (text, plays, puts)
 replied t line text m next a b (Some ending.SinkFailed) plays puts = (puts.0, inl (text, next, plays, puts.1))
 replied t line text m next a b (Some ending.NoMemory) plays puts = puts
@@ -78,7 +78,7 @@ replied t line text m next a b (Some ending.Refused) plays puts = absurd puts
 replied t line text m next a b (Some ending.SourceFailed) plays puts = absurd puts
 
 -- a line that is refused, whose refusal could not be put
-pub refused_short : (t : Scene) (line : List ℕ) (m : ℕ) (next : Scene) (a b : Output) (c : Cause) (e : Ending) → Refuses t line c → Puts (refusal m c) a b (Some e) → PlaysLine t line m next a b (Some e)
+pub refused_short : (t : Scene) (line : List ℕ) (m : ℕ) (next : Scene) (a b : Output) (c : Cause) (e : Ending) → RefusesLine t line c → PutsText (refusal m c) a b (Some e) → PlaysLine t line m next a b (Some e)
 refused_short t line m next a b c ending.SinkFailed refuses puts = (puts.0, inr (c, refuses, puts.1))
 refused_short t line m next a b c ending.NoMemory refuses puts = puts
 refused_short t line m next a b c ending.Finished refuses puts = absurd puts

@@ -111,6 +111,6 @@ Plays old line text new =
     ⊎ ((c : Command) × (reply : Reply) × Says (words line) c × Does old c reply new × (text ≡ reply_text reply))
 
 -- the line is refused: it is neither quiet nor a command, or what its command needs is not there
-abbrev pub Refuses : Scene → List ℕ → Cause → Type 0
-Refuses old line cause.Word = (IsQuiet line → ⊥) × ((c : Command) → Says (words line) c → ⊥)
-Refuses old line other = (c : Command) × Says (words line) c × Lacks old c other
+abbrev pub RefusesLine : Scene → List ℕ → Cause → Type 0
+RefusesLine old line cause.Word = (IsQuiet line → ⊥) × ((c : Command) → Says (words line) c → ⊥)
+RefusesLine old line other = (c : Command) × Says (words line) c × Lacks old c other

@@ -17,13 +17,13 @@ use Rattle.rehearsal.specs.declared.stage.Ending.TheVariants as ending
 use Rattle.rehearsal.specs.Scene.{Scene}
 use Rattle.rehearsal.specs.Outside.{Output}
 use Rattle.rehearsal.specs.Replied.{refusal}
-use Rattle.rehearsal.specs.Acts.{Does, DoesSettle, Lacks, Plays, Refuses}
+use Rattle.rehearsal.specs.Acts.{Does, DoesSettle, Lacks, Plays, RefusesLine}
 
 -- the answer to a line
-abbrev pub Answers : Scene → List ℕ → Played → Scene → Type 0
-Answers old line played.Quiet new = IsQuiet line × (new ≡ old)
-Answers old line (played.Replied reply) new = (c : Command) × Says (words line) c × Does old c reply new
-Answers old line (played.Refused c) new = Refuses old line c
+abbrev pub AnswersLine : Scene → List ℕ → Played → Scene → Type 0
+AnswersLine old line played.Quiet new = IsQuiet line × (new ≡ old)
+AnswersLine old line (played.Replied reply) new = (c : Command) × Says (words line) c × Does old c reply new
+AnswersLine old line (played.Refused c) new = RefusesLine old line c
 
 -- the answer to a command
 abbrev pub Carries : Scene → Command → Played → Scene → Type 0
@@ -44,20 +44,20 @@ StatesSpans (command.Settle epoch ticket lifetime age private tags value) = (lif
 StatesSpans other = Unit {0}
 
 -- the text was written, or the ending says why it was not
-abbrev pub Puts : List ℕ → Output → Output → Option Ending → Type 0
-Puts text old new None = Appends old.written new.written text
-Puts text old new (Some ending.SinkFailed) = Rose old.faults new.faults × AppendsFront old.written new.written text
-Puts text old new (Some ending.NoMemory) = Keeps old.written new.written
-Puts text old new (Some other) = ⊥
+abbrev pub PutsText : List ℕ → Output → Output → Option Ending → Type 0
+PutsText text old new None = Appends old.written new.written text
+PutsText text old new (Some ending.SinkFailed) = Rose old.faults new.faults × AppendsFront old.written new.written text
+PutsText text old new (Some ending.NoMemory) = Keeps old.written new.written
+PutsText text old new (Some other) = ⊥
 
 -- what a line does to the scene and to what is written
 module _ (old : Scene) (line : List ℕ) (number : ℕ) (new : Scene) (before after : Output) where
   abbrev pub PlaysLine : Option Ending → Type 0
   PlaysLine None = (text : List ℕ) × Plays old line text new × Appends before.written after.written text
   PlaysLine (Some ending.Finished) = ⊥
-  PlaysLine (Some ending.Refused) = (c : Cause) × Refuses old line c × Appends before.written after.written (refusal number c)
+  PlaysLine (Some ending.Refused) = (c : Cause) × RefusesLine old line c × Appends before.written after.written (refusal number c)
   PlaysLine (Some ending.SourceFailed) = ⊥
   PlaysLine (Some ending.SinkFailed) = Rose before.faults after.faults
       × (((text : List ℕ) × (next : Scene) × Plays old line text next × AppendsFront before.written after.written text)
-      ⊎ ((c : Cause) × Refuses old line c × AppendsFront before.written after.written (refusal number c)))
+      ⊎ ((c : Cause) × RefusesLine old line c × AppendsFront before.written after.written (refusal number c)))
   PlaysLine (Some ending.NoMemory) = Keeps before.written after.written

@@ -1,11 +1,10 @@
 -- What a script has reached between two lines.
-use Rattle.std.specs.Prelude.{[]}
 use Rattle.std.specs.FinMap as map
 use Rattle.std.specs.Ordering.{nat_cmp}
 use Rattle.cache_terms.specs.declared.events.Limits.{Limits}
 use Rattle.cache_terms.specs.declared.events.Mark.{Mark}
 use Rattle.cache_terms.specs.declared.events.Mark.TheVariants as mark
-use Rattle.cache_model.specs.State.{State}
+use Rattle.cache_model.specs.State.{State, opened}
 use Rattle.cache_book.specs.Permits.{Pinned, Granted}
 use Rattle.cache_book.specs.declared.found.Found.{Found}
 use Rattle.cache_book.specs.declared.found.Found.TheVariants as found
@@ -23,7 +22,7 @@ pub record Scene : Type 0 where
 
 -- at first the epoch is 0, the journal is empty, nobody has a pass, and no permit is in hand
 abbrev pub opening : Limits → Scene
-opening limits = record { book = record { limits = limits; epoch = 0; journal = [] }; passes = map.empty; hand = map.empty }
+opening limits = record { book = opened limits 0; passes = map.empty; hand = map.empty }
 
 -- a permit with a ticket is taken in hand; one without a ticket is spent at once, which changes nothing
 abbrev pub with_permit : Permits → Granted → Mark → Permits

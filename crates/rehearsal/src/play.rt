@@ -4,7 +4,7 @@ ghost use Rattle.script_lines.specs.Replies.{reply_text};
 ghost use Rattle.rehearsal.specs.Outside.{output};
 ghost use Rattle.rehearsal.specs.Runs.{Runs};
 ghost use Rattle.rehearsal.specs.Rehearsing.{EndsWith};
-ghost use Rattle.rehearsal.specs.Answering.{Puts, PlaysLine};
+ghost use Rattle.rehearsal.specs.Answering.{PutsText, PlaysLine};
 
 use crate::stage::{Ending, Played, Stage};
 use flow_base::{Memory, Sink, put_all};
@@ -13,7 +13,7 @@ use std::alloc::Global;
 
 // Writes a reply. It is None where it was written.
 fn put_reply<K: Sink>(alloc: Global, reply: &Reply, sink: &mut K) -> Option<Ending>
-    ensures puts { Puts (reply_text reply.now)
+    ensures puts { PutsText (reply_text reply.now)
         (output (K.written sink.old) (K.faults sink.old))
         (output (K.written sink.new) (K.faults sink.new)) result }
     ensures later { K.faults sink.old ≤ K.faults sink.new }

@@ -67,7 +67,7 @@ impl Stage {
     ghost use Rattle.script_lines.specs.declared.commands.Command.TheVariants as command;
     ghost use Rattle.rehearsal.specs.Scene.{opening};
     ghost use Rattle.rehearsal.specs.Acts.{DoesBegin, DoesVoid, DoesTally};
-    ghost use Rattle.rehearsal.specs.Answering.{Answers, Carries, CarriesSettle, StatesSpans};
+    ghost use Rattle.rehearsal.specs.Answering.{AnswersLine, Carries, CarriesSettle, StatesSpans};
 
     pub fn open(alloc: Global, limits: cache_terms::Limits) -> Result<Stage, Memory>
         requires { IsWithinRanges limits }
@@ -81,9 +81,9 @@ impl Stage {
         })
     }
 
-    /// Answers a line.
+    /// AnswersLine a line.
     pub fn answer(&mut self, line: &str) -> Result<Played, Memory>
-        ensures { IfOk result (λ a. Answers self.old line.now a self.new) }
+        ensures { IfOk result (λ a. AnswersLine self.old line.now a self.new) }
     {
         if is_quiet(line) {
             return Ok(Played::Quiet);

@@ -18,8 +18,8 @@ use Rattle.cache_book.proofs.Stepping.{permit_without}
 use Rattle.turn_lock.specs.declared.seats.Turn.{Turn}
 use Rattle.turn_lock.specs.declared.seats.Stage.TheVariants.{Inside}
 use Rattle.turn_lock.specs.Turns.{turn_of}
-use Rattle.turn_lock.specs.Members.{Standing, entered, left}
-use Rattle.cache_seam.specs.Objects.{IsLawful, CallOffersObject}
+use Rattle.turn_lock.specs.Members.{MemberState, entered, left}
+use Rattle.cache_seam.specs.Objects.{KeepsObjects, CallOffersObject}
 use Rattle.cache_seam.specs.Seen.{Visit, IsCoherent, pass_of}
 use Rattle.cache_seam.specs.Turns as seam
 use Rattle.cache_seam.specs.Turns.{Calls, IsOwnCall, seen_after, pinned_after, begun_after}
@@ -35,17 +35,17 @@ abbrev pub shared : State → Option ℕ → ℕ → Shared
 shared x last members = record { book = x; last = last; members = members }
 
 -- the member came in, found x, left y and is out
-pub record Round (m out : Standing Shared) (x y : State) : Type 0 where
+pub record Round (m out : MemberState Shared) (x y : State) : Type 0 where
   pub serving : ℕ
   pub before : Option ℕ
   pub members : ℕ
   pub out_is : out ≡ left m serving (shared x before members) (shared y (Some m.number) members)
   pub without : WithoutTurn m.last (shared x before members) m.number
 
-goes_round : (m in_ out : Standing Shared) (t : ℕ) (x y : Shared) → in_ ≡ entered m t x → ((s : ℕ) (z : Shared) → in_.stage ≡ Inside s z → out ≡ left in_ s z y) → out ≡ left m t x y
-goes_round m in_ out t x y e f = f t x (ap (λ (n : Standing Shared). n.stage) e) ∙ ap (λ (n : Standing Shared). left n t x y) e
+goes_round : (m in_ out : MemberState Shared) (t : ℕ) (x y : Shared) → in_ ≡ entered m t x → ((s : ℕ) (z : Shared) → in_.stage ≡ Inside s z → out ≡ left in_ s z y) → out ≡ left m t x y
+goes_round m in_ out t x y e f = f t x (ap (λ (n : MemberState Shared). n.stage) e) ∙ ap (λ (n : MemberState Shared). left n t x y) e
 
-pub round_of : (m in_ out : Standing Shared) (x : State) (before : Option ℕ) (members : ℕ) (x' : Shared) (y : State) (number : ℕ) → shared x before members ≡ x' → WithoutTurn m.last x' m.number → (t : ℕ) × (in_ ≡ entered m t x') → number ≡ m.number
+pub round_of : (m in_ out : MemberState Shared) (x : State) (before : Option ℕ) (members : ℕ) (x' : Shared) (y : State) (number : ℕ) → shared x before members ≡ x' → WithoutTurn m.last x' m.number → (t : ℕ) × (in_ ≡ entered m t x') → number ≡ m.number
     → ((s : ℕ) (z : Shared) → in_.stage ≡ Inside s z → out ≡ left in_ s z (shared y (Some number) members)) → Round m out x y
 round_of m in_ out x before members x' y number same without came own f =
     let went = goes_round m in_ out came.0 x' (shared y (Some number) members) came.1 f in
@@ -58,18 +58,18 @@ round_of m in_ out x before members x' y number same without came own f =
       without = subst (λ (z : Shared). WithoutTurn m.last z m.number) (sym same) without;
     }
 
-pub may_leave : (m in_ : Standing Shared) (x : State) (before : Option ℕ) (members : ℕ) (x' : Shared) (y : State) (number : ℕ) → shared x before members ≡ x' → (t : ℕ) × (in_ ≡ entered m t x') → number ≡ m.number → By x y m.number
+pub may_leave : (m in_ : MemberState Shared) (x : State) (before : Option ℕ) (members : ℕ) (x' : Shared) (y : State) (number : ℕ) → shared x before members ≡ x' → (t : ℕ) × (in_ ≡ entered m t x') → number ≡ m.number → By x y m.number
     → (t : ℕ) × (z : Shared) × (in_.stage ≡ Inside t z) × ByTurn z (shared y (Some number) members) in_.number
 may_leave m in_ x before members x' y number same came own by =
     let turn : ByTurn (shared x before members) (shared y (Some number) members) m.number = record { book = by; last = ap Some own; members = refl } in (
       came.0,
       x',
-      ap (λ (n : Standing Shared). n.stage) came.1,
-      subst (λ (k : ℕ). ByTurn x' (shared y (Some number) members) k) (sym (ap (λ (n : Standing Shared). n.number) came.1)) (subst (λ (z : Shared). ByTurn z (shared y (Some number) members) m.number) same turn),
+      ap (λ (n : MemberState Shared). n.stage) came.1,
+      subst (λ (k : ℕ). ByTurn x' (shared y (Some number) members) k) (sym (ap (λ (n : MemberState Shared). n.number) came.1)) (subst (λ (z : Shared). ByTurn z (shared y (Some number) members) m.number) same turn),
     )
 
 -- the number of a member that has come in is below the number of members
-pub numbered_in : (m : Standing Shared) (x : State) (before : Option ℕ) (members : ℕ) (x' : Shared) (number : ℕ) → shared x before members ≡ x' → WithoutTurn m.last x' m.number → number ≡ m.number → m.number < m.last.members → (k : ℕ) → Some number ≡ Some k → k < members
+pub numbered_in : (m : MemberState Shared) (x : State) (before : Option ℕ) (members : ℕ) (x' : Shared) (number : ℕ) → shared x before members ≡ x' → WithoutTurn m.last x' m.number → number ≡ m.number → m.number < m.last.members → (k : ℕ) → Some number ≡ Some k → k < members
 numbered_in m x before members x' number same without own below k is = let all : members ≡ m.last.members = ap (λ (z : Shared). z.members) same ∙ without.members in let k_is : number ≡ k = ap (λ (o : Option ℕ). unwrap_or o 0) is in omega (arith, all, k_is, own, below)
 
 -- WHAT IS SEEN
@@ -93,7 +93,7 @@ journal_more (Look pass id asks now) p e J ts = refl
 journal_more (Settle q r) p e J ts = refl
 journal_more Tally p e J ts = refl
 
-seen_more : (m : Standing Shared) (p : ℕ) (b : Bool) (s : ℕ) (x : Shared) (call : Call) (answer : Answer) (y : Shared) → y.members ≡ m.last.members
+seen_more : (m : MemberState Shared) (p : ℕ) (b : Bool) (s : ℕ) (x : Shared) (call : Call) (answer : Answer) (y : Shared) → y.members ≡ m.last.members
     → seen_of (held (left m s x y) (pinned_after call p y.book.epoch) (begun_after call b)) ≡ seen_after (seen_of (held m p b)) (record { found = x.book; call = call; answer = answer; left = y.book })
 seen_more m p b s x call answer y members =
     let journal = last_more (pinned_after call p y.book.epoch) [] m.turns (turn_of s x y) ∙ journal_more call p y.book.epoch y.book.journal m.turns in
@@ -104,10 +104,10 @@ seen_more m p b s x call answer y members =
 
 -- A TURN
 
-pub record Makes (m out : Standing Shared) (p p' : ℕ) (b b' : Bool) (x : State) (call : Call) (answer : Answer) (y : State) : Type 0 where
+pub record Makes (m out : MemberState Shared) (p p' : ℕ) (b b' : Bool) (x : State) (call : Call) (answer : Answer) (y : State) : Type 0 where
   pub round : Round m out x y
   pub coherent : IsCoherent (seen_of (held m p b))
-  pub lawful : IsLawful x
+  pub lawful : KeepsObjects x
   pub own : IsOwnCall (seen_of (held m p b)) call
   pub may : MayCall x call
   pub offers : CallOffersObject call
@@ -115,27 +115,27 @@ pub record Makes (m out : Standing Shared) (p p' : ℕ) (b b' : Bool) (x : State
   pub pin : p' ≡ pinned_after call p y.epoch
   pub leave : b' ≡ begun_after call b
 
-takes : (m out : Standing Shared) (p p' : ℕ) (b b' : Bool) (x : State) (call : Call) (answer : Answer) (y : State) → Makes m out p p' b b' x call answer y → CanTurn (seen_of (held m p b)) (record { found = x; call = call; answer = answer; left = y })
+takes : (m out : MemberState Shared) (p p' : ℕ) (b b' : Bool) (x : State) (call : Call) (answer : Answer) (y : State) → Makes m out p p' b b' x call answer y → CanTurn (seen_of (held m p b)) (record { found = x; call = call; answer = answer; left = y })
 takes m out p p' b b' x call answer y h = record { before = h.coherent; own = h.own; goes_on = h.round.without.book; alone = λ not. absurd (cc not); found_lawful = h.lawful; may = h.may; offers = h.offers; step = h.step }
 
 -- what the member found and left
-abbrev pub found_in : (m out : Standing Shared) (x y : State) → Round m out x y → Shared
+abbrev pub found_in : (m out : MemberState Shared) (x y : State) → Round m out x y → Shared
 found_in m out x y r = shared x r.before r.members
 
-abbrev pub left_in : (m out : Standing Shared) (x y : State) → Round m out x y → Shared
+abbrev pub left_in : (m out : MemberState Shared) (x y : State) → Round m out x y → Shared
 left_in m out x y r = shared y (Some m.number) r.members
 
-seen_out : (m out : Standing Shared) (p p' : ℕ) (b b' : Bool) (x : State) (call : Call) (answer : Answer) (y : State) → Makes m out p p' b b' x call answer y
+seen_out : (m out : MemberState Shared) (p p' : ℕ) (b b' : Bool) (x : State) (call : Call) (answer : Answer) (y : State) → Makes m out p p' b b' x call answer y
     → seen_of (held out p' b') ≡ seen_after (seen_of (held m p b)) (record { found = x; call = call; answer = answer; left = y })
 seen_out m out p p' b b' x call answer y h =
     let found : Shared = found_in m out x y h.round in
     let put : Shared = left_in m out x y h.round in
-    ap (λ (n : Standing Shared). seen_of (held n p' b')) h.round.out_is
+    ap (λ (n : MemberState Shared). seen_of (held n p' b')) h.round.out_is
     ∙ (ap (λ (n : ℕ). seen_of (held (left m h.round.serving found put) n b')) h.pin
     ∙ (ap (λ (n : Bool). seen_of (held (left m h.round.serving found put) (pinned_after call p y.epoch) n)) h.leave
     ∙ seen_more m p b h.round.serving found call answer put h.round.without.members))
 
-pub handle_calls : (m out : Standing Shared) (p p' : ℕ) (b b' : Bool) (x : State) (call : Call) (answer : Answer) (y : State) → Makes m out p p' b b' x call answer y → Calls (seen_of (held m p b)) call answer (seen_of (held out p' b'))
+pub handle_calls : (m out : MemberState Shared) (p p' : ℕ) (b b' : Bool) (x : State) (call : Call) (answer : Answer) (y : State) → Makes m out p p' b b' x call answer y → Calls (seen_of (held m p b)) call answer (seen_of (held out p' b'))
 handle_calls m out p p' b b' x call answer y h = record {
   turn = record { found = x; call = call; answer = answer; left = y };
   call_is = refl;
@@ -148,7 +148,7 @@ chained_more : (k : ℕ) (a b : State) (ts : List (Turn Shared)) (t : Turn Share
 chained_more k a b [] t c w y = (subst (λ (z : State). Without z t.entered.book k) (sym c) w, y, refl)
 chained_more k a b (u ∷ ts) t c w y = (c.0, c.1, chained_more k u.left.book b ts t c.2 w y)
 
-pub handle_stays : (m out : Standing Shared) (p p' : ℕ) (b b' : Bool) (x : State) (call : Call) (answer : Answer) (y : State) (pass pass' : Pinned) → IsHandle m pass p b → Makes m out p p' b b' x call answer y
+pub handle_stays : (m out : MemberState Shared) (p p' : ℕ) (b b' : Bool) (x : State) (call : Call) (answer : Answer) (y : State) (pass pass' : Pinned) → IsHandle m pass p b → Makes m out p p' b b' x call answer y
     → (b' ≡ true → pass' ≡ record { who = m.number; epoch = p' }) → IsHandle out pass' p' b'
 handle_stays m out p p' b b' x call answer y pass pass' was h is =
     let t : seam.Turn = record { found = x; call = call; answer = answer; left = y } in
@@ -160,16 +160,16 @@ handle_stays m out p p' b b' x call answer y pass pass' was h is =
     let limits : opened m.last.book.limits 0 ≡ opened y.limits 0 = ap (λ l. opened l 0) (sym (by.limits ∙ h.round.without.book.limits)) in
     let chained = subst (λ (a : State). Chained m.number a (m.turns ++ turn ∷ []) y) limits (chained_more m.number (opened m.last.book.limits 0) m.last.book m.turns turn was.chained h.round.without.book by) in
     record {
-      outside = ap (λ (n : Standing Shared). n.stage) h.round.out_is;
+      outside = ap (λ (n : MemberState Shared). n.stage) h.round.out_is;
       coherent = subst IsCoherent (sym (seen_out m out p p' b b' x call answer y h)) (coherent_turn (seen_of (held m p b)) t taken);
-      chained = subst (λ (n : Standing Shared). Chained n.number (opened n.last.book.limits 0) n.turns n.last.book) (sym h.round.out_is) chained;
-      numbered = subst (λ (n : Standing Shared). n.number < n.last.members) (sym h.round.out_is) (subst (λ (n : ℕ). m.number < n) (sym h.round.without.members) was.numbered);
-      pass_is = λ begun. is begun ∙ ap (λ (k : ℕ). record { who = k; epoch = p' }) (sym (ap (λ (n : Standing Shared). n.number) h.round.out_is));
+      chained = subst (λ (n : MemberState Shared). Chained n.number (opened n.last.book.limits 0) n.turns n.last.book) (sym h.round.out_is) chained;
+      numbered = subst (λ (n : MemberState Shared). n.number < n.last.members) (sym h.round.out_is) (subst (λ (n : ℕ). m.number < n) (sym h.round.without.members) was.numbered);
+      pass_is = λ begun. is begun ∙ ap (λ (k : ℕ). record { who = k; epoch = p' }) (sym (ap (λ (n : MemberState Shared). n.number) h.round.out_is));
     }
 
 -- BEGIN
 
-pub begins : (m out : Standing Shared) (old : Pinned) (p : ℕ) (b : Bool) (x y : State) (number : ℕ) (pass : Pinned) (epoch : ℕ) → IsHandle m old p b → Round m out x y → IsLawful x → number ≡ m.number → Step x (Begin number) (Begun pass) y → epoch ≡ pass.epoch
+pub begins : (m out : MemberState Shared) (old : Pinned) (p : ℕ) (b : Bool) (x y : State) (number : ℕ) (pass : Pinned) (epoch : ℕ) → IsHandle m old p b → Round m out x y → KeepsObjects x → number ≡ m.number → Step x (Begin number) (Begun pass) y → epoch ≡ pass.epoch
     → Makes m out p epoch b true x (Begin m.number) (Begun (record { who = m.number; epoch = epoch })) y × (pass ≡ record { who = m.number; epoch = epoch })
 begins m out old p b x y number pass epoch was round lawful same step is =
     let pass_is : pass ≡ record { who = m.number; epoch = epoch } = step.1 ∙ (ap (λ (k : ℕ). record { who = k; epoch = y.epoch }) same ∙ ap (λ (e : ℕ). record { who = m.number; epoch = e }) (ap (λ (q : Pinned). q.epoch) (sym step.1) ∙ sym is)) in
@@ -185,7 +185,7 @@ pub looked : {X Y : Type 0} (r : Result X Y) (told : X → List Found) (x y : St
 looked (Ok a) told x y pass id asks now ok err = (Looked (told a), ok)
 looked (Err e) told x y pass id asks now ok err = (OutOfMemory, err)
 
-pub looks : (m out : Standing Shared) (pass : Pinned) (p : ℕ) (b : Bool) (x y : State) (id : Option (List ℕ)) (asks : List Key) (now : ℕ) (answer : Answer) → IsHandle m pass p b → Round m out x y → IsLawful x → b ≡ true → Step x (Look pass id asks now) answer y
+pub looks : (m out : MemberState Shared) (pass : Pinned) (p : ℕ) (b : Bool) (x y : State) (id : Option (List ℕ)) (asks : List Key) (now : ℕ) (answer : Answer) → IsHandle m pass p b → Round m out x y → KeepsObjects x → b ≡ true → Step x (Look pass id asks now) answer y
     → Makes m out p p b b x (Look (pass_of (seen_of (held m p b))) id asks now) answer y
 looks m out pass p b x y id asks now answer was round lawful begun step = record {
   round = round;
@@ -199,12 +199,12 @@ looks m out pass p b x y id asks now answer was round lawful begun step = record
   leave = refl;
 }
 
-pub looks_ok : {X Y : Type 0} (r : Result X Y) (told : X → List Found) (m out : Standing Shared) (pass : Pinned) (p : ℕ) (b : Bool) (x y : State) (id : Option (List ℕ)) (asks : List Key) (now : ℕ) → IsHandle m pass p b → Round m out x y → IsLawful x → b ≡ true
+pub looks_ok : {X Y : Type 0} (r : Result X Y) (told : X → List Found) (m out : MemberState Shared) (pass : Pinned) (p : ℕ) (b : Bool) (x y : State) (id : Option (List ℕ)) (asks : List Key) (now : ℕ) → IsHandle m pass p b → Round m out x y → KeepsObjects x → b ≡ true
     → IfOk r (λ a. Step x (Look pass id asks now) (Looked (told a)) y) → IfOk r (λ a. Calls (seen_of (held m p b)) (Look (pass_of (seen_of (held m p b))) id asks now) (Looked (told a)) (seen_of (held out p b)))
 looks_ok (Ok a) told m out pass p b x y id asks now was round lawful begun ok = handle_calls m out p p b b x (Look (pass_of (seen_of (held m p b))) id asks now) (Looked (told a)) y (looks m out pass p b x y id asks now (Looked (told a)) was round lawful begun ok)
 looks_ok (Err e) told m out pass p b x y id asks now was round lawful begun ok = tt
 
-pub looks_err : {X Y : Type 0} (r : Result X Y) (m out : Standing Shared) (pass : Pinned) (p : ℕ) (b : Bool) (x y : State) (id : Option (List ℕ)) (asks : List Key) (now : ℕ) → IsHandle m pass p b → Round m out x y → IsLawful x → b ≡ true
+pub looks_err : {X Y : Type 0} (r : Result X Y) (m out : MemberState Shared) (pass : Pinned) (p : ℕ) (b : Bool) (x y : State) (id : Option (List ℕ)) (asks : List Key) (now : ℕ) → IsHandle m pass p b → Round m out x y → KeepsObjects x → b ≡ true
     → OnErr r (Step x (Look pass id asks now) OutOfMemory y) → OnErr r (Calls (seen_of (held m p b)) (Look (pass_of (seen_of (held m p b))) id asks now) OutOfMemory (seen_of (held out p b)))
 looks_err (Ok a) m out pass p b x y id asks now was round lawful begun err = tt
 looks_err (Err e) m out pass p b x y id asks now was round lawful begun err = handle_calls m out p p b b x (Look (pass_of (seen_of (held m p b))) id asks now) OutOfMemory y (looks m out pass p b x y id asks now OutOfMemory was round lawful begun err)
@@ -212,7 +212,7 @@ looks_err (Err e) m out pass p b x y id asks now was round lawful begun err = ha
 -- SETTLE
 
 -- a permit that may be settled in the state left may be settled in the state found
-pub found_may : (m : Standing Shared) (x : State) (before : Option ℕ) (members : ℕ) (x' : Shared) (q : Granted) → shared x before members ≡ x' → WithoutTurn m.last x' m.number → IsLawful x → q.who ≡ m.number → q.epoch ≤ m.last.book.epoch → MaySettle m.last.book q → MaySettle x q
+pub found_may : (m : MemberState Shared) (x : State) (before : Option ℕ) (members : ℕ) (x' : Shared) (q : Granted) → shared x before members ≡ x' → WithoutTurn m.last x' m.number → KeepsObjects x → q.who ≡ m.number → q.epoch ≤ m.last.book.epoch → MaySettle m.last.book q → MaySettle x q
 found_may m x before members x' q same without lawful own begun may =
     let w : WithoutTurn m.last (shared x before members) m.number = subst (λ (z : Shared). WithoutTurn m.last z m.number) (sym same) without in
     permit_without m.last.book x q lawful.legal (subst (λ (k : ℕ). Without m.last.book x k) (sym own) w.book) begun may
@@ -224,7 +224,7 @@ voids_epoch turned.No x who target v y h = h.epoch ∙ ap (λ (s : State). s.epo
 voids_epoch (turned.Full a b d) x who target v y h = h.epoch ∙ ap (λ (s : State). s.epoch) (sym h.after)
 voids_epoch turned.Retired x who target v y h = ap (λ (u : voided.Voided). u.epoch) h.answer_is ∙ ap (λ (s : State). s.epoch) (sym h.same)
 
-pub voids : (m out : Standing Shared) (old : Pinned) (p : ℕ) (b : Bool) (x y : State) (number : ℕ) (target : Target) (v : voided.Voided) → IsHandle m old p b → Round m out x y → IsLawful x → number ≡ m.number → Step x (Invalidate number target) (Voided v) y
+pub voids : (m out : MemberState Shared) (old : Pinned) (p : ℕ) (b : Bool) (x y : State) (number : ℕ) (target : Target) (v : voided.Voided) → IsHandle m old p b → Round m out x y → KeepsObjects x → number ≡ m.number → Step x (Invalidate number target) (Voided v) y
     → Makes m out p v.epoch b false x (Invalidate m.number target) (Voided v) y
 voids m out old p b x y number target v was round lawful same step = record {
   round = round;

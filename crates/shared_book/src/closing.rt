@@ -1,7 +1,7 @@
 ghost use Rattle.std.specs.Prelude.{ℕ, ◌≤◌, ◌<◌, length, All};
 ghost use Rattle.turn_lock.specs.Turns.{served};
 ghost use Rattle.turn_lock.specs.Members.{InOrder};
-ghost use Rattle.cache_seam.specs.Objects.{IsLawful};
+ghost use Rattle.cache_seam.specs.Objects.{KeepsObjects};
 ghost use Rattle.shared_book.specs.Sharing.{BookFollows};
 ghost use Rattle.shared_book.specs.Handles.{AreOfOneBook, Continues, HasOwnEvents};
 ghost use Rattle.shared_book.specs.Handles.{IsLeftBy, all_turns};
@@ -16,7 +16,7 @@ use turn_lock::Closing;
 pub fn close<R: Wait + Clone + Drop>(mut handles: Vec<Handle<R>>) -> Book
     requires some { 0 < length handles.items }
     requires one_home { AreOfOneBook handles.items }
-    ensures lawful { IsLawful result }
+    ensures lawful { KeepsObjects result }
     ensures continues { All (Continues result) handles.items }
     ensures own { All (HasOwnEvents result) handles.items }
     ensures last { (k : ℕ) × IsLeftBy k result handles.items }

@@ -18,9 +18,9 @@ pub struct Handle<R> {
 }
 
 impl<R> Model for Handle<R> {
-    ghost use Rattle.shared_book.specs.Handles.{Held, held, IsHandle};
+    ghost use Rattle.shared_book.specs.Handles.{HandleState, held, IsHandle};
 
-    ghost Value = { Held };
+    ghost Value = { HandleState };
 
     ghost view = { λ h. held h.member h.pinned h.begun };
 

@@ -11,14 +11,14 @@ pub(crate) struct StoriedBook {
 }
 
 impl Model for StoriedBook {
-    ghost use Rattle.cache_seam.specs.Objects.{IsLawful};
+    ghost use Rattle.cache_seam.specs.Objects.{KeepsObjects};
     ghost use Rattle.shared_book.specs.Sharing.{Shared, IsNumbered};
 
     ghost Value = { Shared };
 
     ghost view = { λ s. record { book = s.book; last = s.last; members = s.members } };
 
-    ghost invariant = { λ s. IsLawful s.book × IsNumbered s.last s.members };
+    ghost invariant = { λ s. KeepsObjects s.book × IsNumbered s.last s.members };
 }
 
 impl Storied for StoriedBook {

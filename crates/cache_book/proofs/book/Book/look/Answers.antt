@@ -11,7 +11,7 @@ use Rattle.cache_book.proofs.Telling.{bypassed_new, bypassed_chosen, mark_is_non
 use Rattle.cache_book.proofs.book.Book.look.Goals as goal
 
 pub returns-in-None-clause-keeps : goal.returns-in-None-clause-keeps
-returns-in-None-clause-keeps c = rw (← c.self.view_is, c.ask_all.ensures.limits) (permits_kept c.self.inside.journal.limits c.self.inside.epoch c.self.inside.journal.events c.ask_all.new.self.events c.ask_all.ensures.keeps)
+returns-in-None-clause-keeps c = rw (← c.self.view_is, c.ask_all.ensures.limits, c.ask_all.ensures.probes) (permits_kept c.self.inside.journal.limits c.self.inside.epoch c.self.inside.journal.probes c.self.inside.journal.events c.ask_all.new.self.events c.ask_all.ensures.keeps)
 
 pub returns-in-None-clause-owed : goal.returns-in-None-clause-owed
 returns-in-None-clause-owed c =
@@ -24,7 +24,7 @@ returns-in-Some-clause-owed c =
     let L = c.self.inside.journal.limits in
     let E = c.self.inside.epoch in
     let J = c.self.inside.journal.events in
-    let s : State = record { limits = L; epoch = E; journal = J } in
+    let s : State = record { limits = L; epoch = E; journal = J; probes = c.self.inside.journal.probes } in
     let pass = c.args.pass.now in
     let id = option_copied c.args.id in
     let m = c.in-Some.mark in
@@ -35,7 +35,7 @@ returns-in-Some-clause-owed c =
 pub returns-in-Some-clause-tickets : goal.returns-in-Some-clause-tickets
 returns-in-Some-clause-tickets c =
     let J = c.self.inside.journal.events in
-    let s : State = record { limits = c.self.inside.journal.limits; epoch = c.self.inside.epoch; journal = J } in
+    let s : State = record { limits = c.self.inside.journal.limits; epoch = c.self.inside.epoch; journal = J; probes = c.self.inside.journal.probes } in
     let pass = c.args.pass.now in
     let id = option_copied c.args.id in
     let m = c.in-Some.mark in

@@ -1,5 +1,5 @@
 use Rattle.std.proofs.Common.{false}
-use Rattle.turn_lock.specs.Members.{Standing}
+use Rattle.turn_lock.specs.Members.{MemberState}
 use Rattle.cache_model.specs.State.{State}
 use Rattle.shared_book.specs.Sharing.{Shared}
 use Rattle.cache_book.specs.Calls as call
@@ -10,7 +10,7 @@ use Rattle.shared_book.proofs.handle.HandleCache.invalidate.Goals as goal
 
 pub invariant_of-leave : goal.invariant_of-leave
 invariant_of-leave g c =
-    let m : Standing Shared = c.self.inside.member in
+    let m : MemberState Shared = c.self.inside.member in
     let x : State = c.book.inside.book in
     let y : State = c.invalidate-voided.new.self in (
       lawful_after x (call.Invalidate c.number-number.result c.args.notice) (call.Voided c.invalidate-voided.result) y c.book.invariant.0 tt tt c.invalidate-voided.ensures.step,
@@ -19,14 +19,14 @@ invariant_of-leave g c =
 
 pub leave-requires : goal.leave-requires
 leave-requires g c =
-    let m : Standing Shared = c.self.inside.member in
+    let m : MemberState Shared = c.self.inside.member in
     let x : State = c.book.inside.book in
     let y : State = c.invalidate-voided.new.self in
     may_leave m c.enter.new.self x c.book.inside.last c.book.inside.members c.enter.result y c.number-number.result c.book.view_is c.enter.ensures.turn c.number-number.ensures (step_by x (call.Invalidate c.number-number.result c.args.notice) (call.Voided c.invalidate-voided.result) y m.number c.number-number.ensures c.invalidate-voided.ensures.step)
 
 pub invariant_of-self : goal.invariant_of-self
 invariant_of-self g c =
-    let m : Standing Shared = c.self.inside.member in
+    let m : MemberState Shared = c.self.inside.member in
     let x : State = c.book.inside.book in
     let y : State = c.invalidate-voided.new.self in
     let round = round_of m c.enter.new.self c.leave.new.self x c.book.inside.last c.book.inside.members c.enter.result y c.number-number.result c.book.view_is c.enter.ensures.without c.enter.ensures.turn c.number-number.ensures c.leave.ensures in
@@ -36,7 +36,7 @@ invariant_of-self g c =
 
 pub returns : goal.returns
 returns g c =
-    let m : Standing Shared = c.self.inside.member in
+    let m : MemberState Shared = c.self.inside.member in
     let x : State = c.book.inside.book in
     let y : State = c.invalidate-voided.new.self in
     let round = round_of m c.enter.new.self c.leave.new.self x c.book.inside.last c.book.inside.members c.enter.result y c.number-number.result c.book.view_is c.enter.ensures.without c.enter.ensures.turn c.number-number.ensures c.leave.ensures in

@@ -1,6 +1,6 @@
 use Rattle.std.proofs.Common.{ap}
 use Rattle.std.specs.Option.{option_copied}
-use Rattle.turn_lock.specs.Members.{Standing}
+use Rattle.turn_lock.specs.Members.{MemberState}
 use Rattle.cache_model.specs.State.{State}
 use Rattle.shared_book.specs.Sharing.{Shared}
 use Rattle.cache_book.specs.Permits.{Pinned}
@@ -14,7 +14,7 @@ use Rattle.shared_book.proofs.handle.HandleCache.look.Goals as goal
 
 pub invariant_of-leave : goal.invariant_of-leave
 invariant_of-leave g c =
-    let m : Standing Shared = c.self.inside.member in
+    let m : MemberState Shared = c.self.inside.member in
     let x : State = c.book.inside.book in
     let y : State = c.look-answers.new.self in
     let saw = looked c.look-answers.result (λ v. v.items) x y c.self.inside.pass (option_copied c.args.id) c.args.asks.items c.args.now c.look-answers.ensures.ok c.look-answers.ensures.err in (
@@ -24,7 +24,7 @@ invariant_of-leave g c =
 
 pub leave-requires : goal.leave-requires
 leave-requires g c =
-    let m : Standing Shared = c.self.inside.member in
+    let m : MemberState Shared = c.self.inside.member in
     let x : State = c.book.inside.book in
     let y : State = c.look-answers.new.self in
     let saw = looked c.look-answers.result (λ v. v.items) x y c.self.inside.pass (option_copied c.args.id) c.args.asks.items c.args.now c.look-answers.ensures.ok c.look-answers.ensures.err in
@@ -33,7 +33,7 @@ leave-requires g c =
 
 pub invariant_of-self : goal.invariant_of-self
 invariant_of-self g c =
-    let m : Standing Shared = c.self.inside.member in
+    let m : MemberState Shared = c.self.inside.member in
     let x : State = c.book.inside.book in
     let y : State = c.look-answers.new.self in
     let round = round_of m c.enter.new.self c.leave.new.self x c.book.inside.last c.book.inside.members c.enter.result y c.number-number.result c.book.view_is c.enter.ensures.without c.enter.ensures.turn c.number-number.ensures c.leave.ensures in
@@ -44,7 +44,7 @@ invariant_of-self g c =
 
 pub returns-clause-ok : goal.returns-clause-ok
 returns-clause-ok g c =
-    let m : Standing Shared = c.self.inside.member in
+    let m : MemberState Shared = c.self.inside.member in
     let x : State = c.book.inside.book in
     let y : State = c.look-answers.new.self in
     let round = round_of m c.enter.new.self c.leave.new.self x c.book.inside.last c.book.inside.members c.enter.result y c.number-number.result c.book.view_is c.enter.ensures.without c.enter.ensures.turn c.number-number.ensures c.leave.ensures in
@@ -54,7 +54,7 @@ returns-clause-ok g c =
 
 pub returns-clause-err : goal.returns-clause-err
 returns-clause-err g c =
-    let m : Standing Shared = c.self.inside.member in
+    let m : MemberState Shared = c.self.inside.member in
     let x : State = c.book.inside.book in
     let y : State = c.look-answers.new.self in
     let round = round_of m c.enter.new.self c.leave.new.self x c.book.inside.last c.book.inside.members c.enter.result y c.number-number.result c.book.view_is c.enter.ensures.without c.enter.ensures.turn c.number-number.ensures c.leave.ensures in

@@ -1,5 +1,5 @@
 use Rattle.std.proofs.Common.{refl}
-use Rattle.turn_lock.specs.Members.{Standing}
+use Rattle.turn_lock.specs.Members.{MemberState}
 use Rattle.cache_model.specs.State.{State}
 use Rattle.shared_book.specs.Sharing.{Shared}
 use Rattle.cache_book.specs.Calls as call
@@ -10,7 +10,7 @@ use Rattle.shared_book.proofs.handle.HandleCache.settle.Goals as goal
 
 pub settle-settled-requires-clause-may : goal.settle-settled-requires-clause-may
 settle-settled-requires-clause-may g c =
-    let m : Standing Shared = c.self.inside.member in
+    let m : MemberState Shared = c.self.inside.member in
     let x : State = c.book.inside.book in
     let own = rw (← c.self.view_is) at c.requires.own in
     let begun = rw (← c.self.view_is) at c.requires.begun in
@@ -18,7 +18,7 @@ settle-settled-requires-clause-may g c =
 
 pub invariant_of-leave : goal.invariant_of-leave
 invariant_of-leave g c =
-    let m : Standing Shared = c.self.inside.member in
+    let m : MemberState Shared = c.self.inside.member in
     let x : State = c.book.inside.book in
     let y : State = c.settle-settled.new.self in
     let own = rw (← c.self.view_is) at c.requires.own in
@@ -30,7 +30,7 @@ invariant_of-leave g c =
 
 pub leave-requires : goal.leave-requires
 leave-requires g c =
-    let m : Standing Shared = c.self.inside.member in
+    let m : MemberState Shared = c.self.inside.member in
     let x : State = c.book.inside.book in
     let y : State = c.settle-settled.new.self in
     let own = rw (← c.self.view_is) at c.requires.own in
@@ -38,7 +38,7 @@ leave-requires g c =
 
 pub invariant_of-self : goal.invariant_of-self
 invariant_of-self g c =
-    let m : Standing Shared = c.self.inside.member in
+    let m : MemberState Shared = c.self.inside.member in
     let x : State = c.book.inside.book in
     let y : State = c.settle-settled.new.self in
     let round = round_of m c.enter.new.self c.leave.new.self x c.book.inside.last c.book.inside.members c.enter.result y c.number-number.result c.book.view_is c.enter.ensures.without c.enter.ensures.turn c.number-number.ensures c.leave.ensures in
@@ -51,7 +51,7 @@ invariant_of-self g c =
 
 pub returns : goal.returns
 returns g c =
-    let m : Standing Shared = c.self.inside.member in
+    let m : MemberState Shared = c.self.inside.member in
     let x : State = c.book.inside.book in
     let y : State = c.settle-settled.new.self in
     let round = round_of m c.enter.new.self c.leave.new.self x c.book.inside.last c.book.inside.members c.enter.result y c.number-number.result c.book.view_is c.enter.ensures.without c.enter.ensures.turn c.number-number.ensures c.leave.ensures in

@@ -1,5 +1,5 @@
 use Rattle.std.proofs.Common.{refl}
-use Rattle.turn_lock.specs.Members.{Standing}
+use Rattle.turn_lock.specs.Members.{MemberState}
 use Rattle.cache_model.specs.State.{State}
 use Rattle.shared_book.specs.Sharing.{Shared}
 use Rattle.cache_book.specs.Calls as call
@@ -8,7 +8,7 @@ use Rattle.shared_book.proofs.handle.HandleCache.tally.Goals as goal
 
 pub invariant_of-self : goal.invariant_of-self
 invariant_of-self g c =
-    let m : Standing Shared = c.self.inside.member in
+    let m : MemberState Shared = c.self.inside.member in
     let x : State = c.book.inside.book in
     let round = round_of m c.enter.new.self c.leave.new.self x c.book.inside.last c.book.inside.members c.enter.result x c.number-number.result c.book.view_is c.enter.ensures.without c.enter.ensures.turn c.number-number.ensures c.leave.ensures in
     handle_stays m c.leave.new.self c.self.inside.pinned c.self.inside.pinned c.self.inside.begun c.self.inside.begun x call.Tally (call.Tallied c.tally-tally.result) x c.self.inside.pass c.self.inside.pass c.self.invariant
@@ -17,7 +17,7 @@ invariant_of-self g c =
 
 pub returns : goal.returns
 returns g c =
-    let m : Standing Shared = c.self.inside.member in
+    let m : MemberState Shared = c.self.inside.member in
     let x : State = c.book.inside.book in
     let round = round_of m c.enter.new.self c.leave.new.self x c.book.inside.last c.book.inside.members c.enter.result x c.number-number.result c.book.view_is c.enter.ensures.without c.enter.ensures.turn c.number-number.ensures c.leave.ensures in
     rw (← c.self.view_is)

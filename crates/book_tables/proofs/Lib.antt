@@ -1,0 +1,14 @@
+pub mod Keeping
+pub mod Ticketing
+pub mod Deciding
+pub mod Placing
+pub mod Standings
+pub mod Finding
+pub mod Quieting
+pub mod Covering
+pub mod Voided
+pub mod Closed
+pub mod Placed
+pub mod Judged
+pub mod Opened
+pub mod Shelved

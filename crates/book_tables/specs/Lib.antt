@@ -1,0 +1,11 @@
+pub use Rattle.cache_terms.specs.Keys
+pub use Rattle.cache_terms.specs.Offers
+pub use Rattle.cache_model.specs.Journal
+pub use Rattle.cache_model.specs.Legal
+pub mod Refs
+pub mod Standing
+pub mod Pieces
+pub mod Halves
+pub mod Closing
+pub mod Laws
+pub mod Shelving
