@@ -3,9 +3,12 @@
 //! TURNS` does so for reading a GraphQL document and writing its canonical text, `bench http TURNS` for reading a stream of
 //! requests, `bench request TURNS` for the first request of a case, and `bench shape TURNS` for shaping data by a schema and a
 //! query. `bench plan TURNS` makes what it works on itself: entities that are gathered and placed. `bench turns THREADS TURNS`
-//! times threads that share one book.
+//! times threads that share one book, `bench book EVENTS` the calls on a book that is almost full, and `bench depth LEVELS` does
+//! what recurses over a JSON value.
 #![tactic(auto)]
 
+mod book;
+mod depth;
 mod documents;
 mod http;
 mod json;
@@ -21,7 +24,9 @@ use std::rt::Runtime;
 use std::sync::Wait;
 use std::thread::Threads;
 
-const USAGE: &str = "usage: bench json TURNS < TEXT
+const USAGE: &str = "usage: bench book EVENTS
+       bench depth LEVELS
+       bench json TURNS < TEXT
        bench documents TURNS < DOCUMENT
        bench http TURNS < REQUESTS
        bench plan TURNS
@@ -30,7 +35,8 @@ const USAGE: &str = "usage: bench json TURNS < TEXT
        bench turns THREADS TURNS
 Times the reading and the printing of a JSON text or of a GraphQL document, the reading of a stream of HTTP requests, the
 gathering and placing of entities, the first request of a case (with nothing kept, and with everything kept), or the shaping
-of data, each TURNS times; or TURNS turns of each of some threads on one book.";
+of data, each TURNS times; TURNS turns of each of some threads on one book; calls on a book of EVENTS events; or, untimed, what
+recurses over a JSON value of LEVELS levels.";
 
 fn main(rt: HostRuntime) -> Result<()> {
     run(&rt)
@@ -60,6 +66,8 @@ fn number(word: Option<String>) -> Result<u32> {
 
 fn time<R: Runtime<A = Global>>(rt: &R, what: &str, turns: u32) -> Result<()> {
     match what {
+        "book" => book::time(rt, turns),
+        "depth" => depth::try_levels(rt, turns),
         "json" => json::time(rt, turns),
         "documents" => documents::time(rt, turns),
         "http" => http::time(rt, turns),
