@@ -3,12 +3,12 @@ use Rattle.std.specs.Prelude.{List, [], ◌∷◌, ◌++◌, map, codes}
 use Rattle.json_value.specs.declared.tree.Json.{Json}
 use Rattle.gql_shape.specs.declared.shaped.Shaped.{Shaped}
 use Rattle.answer_text.specs.declared.fetch_error.FetchError.{FetchError}
-use Rattle.answer_text.specs.ErrorValues.{Members, list, object}
+use Rattle.answer_text.specs.ErrorValues.{NamedValues, list, object}
 use Rattle.answer_text.specs.FetchErrors.{fetch_error}
 use Rattle.answer_text.specs.ShapeErrors.{shape_error}
 
 -- there where there is an error
-abbrev pub errors_members : List Json → Members
+abbrev pub errors_members : List Json → NamedValues
 errors_members [] = []
 errors_members (e ∷ es) = (codes "errors", list (e ∷ es)) ∷ []
 

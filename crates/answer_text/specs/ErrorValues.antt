@@ -8,8 +8,8 @@ use Rattle.json_paths.specs.declared.path.Spot.{Spot}
 use Rattle.json_paths.specs.declared.path.Spot.TheVariants as spot
 use Rattle.json_paths.specs.declared.path.Place.{Place}
 
-abbrev pub Members : Type 0
-Members = List (List ℕ × Json)
+abbrev pub NamedValues : Type 0
+NamedValues = List (List ℕ × Json)
 
 abbrev pub string : List ℕ → Json
 string text = json.Str text
@@ -20,7 +20,7 @@ number n = json.Number (decimal n)
 abbrev pub list : List Json → Json
 list items = json.List items
 
-abbrev pub object : Members → Json
+abbrev pub object : NamedValues → Json
 object members = json.Object members
 
 abbrev pub spot_value : Spot → Json
@@ -31,12 +31,12 @@ spot_value (spot.Index index) = number index
 abbrev pub path_value : Place → Json
 path_value place = list (map spot_value place.spots)
 
-abbrev pub path_members : Option Place → Members
+abbrev pub path_members : Option Place → NamedValues
 path_members None = []
 path_members (Some place) = (codes "path", path_value place) ∷ []
 
-abbrev pub extensions : List ℕ → Members → Members
+abbrev pub extensions : List ℕ → NamedValues → NamedValues
 extensions code more = (codes "extensions", object ((codes "code", string code) ∷ more)) ∷ []
 
-abbrev pub error_value : List ℕ → Option Place → List ℕ → Members → Json
+abbrev pub error_value : List ℕ → Option Place → List ℕ → NamedValues → Json
 error_value message place code more = object (((codes "message", string message) ∷ path_members place) ++ extensions code more)

@@ -4,7 +4,7 @@ use Rattle.json_value.specs.declared.tree.Json.{Json}
 use Rattle.answer_text.specs.declared.fetch_error.FetchCause.{FetchCause}
 use Rattle.answer_text.specs.declared.fetch_error.FetchCause.TheVariants as cause
 use Rattle.answer_text.specs.declared.fetch_error.FetchError.{FetchError}
-use Rattle.answer_text.specs.ErrorValues.{Members, string, number, error_value}
+use Rattle.answer_text.specs.ErrorValues.{NamedValues, string, number, error_value}
 
 abbrev pub code_of : FetchCause → List ℕ
 code_of cause.Unreachable = codes "UNREACHABLE"
@@ -25,7 +25,7 @@ message_of (cause.Miscounted got sent) = codes "subgraph reply not readable"
 message_of (cause.Subgraph text) = text
 
 -- what is said after the subgraph's name
-abbrev pub more_of : FetchCause → Members
+abbrev pub more_of : FetchCause → NamedValues
 more_of cause.Unreachable = []
 more_of (cause.TooLong bytes) = (codes "bytes", number bytes) ∷ []
 more_of (cause.Status status) = (codes "status", number status) ∷ []
@@ -34,7 +34,7 @@ more_of (cause.Misshapen member) = (codes "member", string member) ∷ []
 more_of (cause.Miscounted got sent) = (codes "got", number got) ∷ ((codes "sent", number sent) ∷ [])
 more_of (cause.Subgraph text) = []
 
-abbrev pub members_of : List ℕ → FetchCause → Members
+abbrev pub members_of : List ℕ → FetchCause → NamedValues
 members_of subgraph cause = (codes "subgraph", string subgraph) ∷ more_of cause
 
 abbrev pub fetch_error : FetchError → Json

@@ -5,7 +5,7 @@ use Rattle.answer_text.specs.declared.refusal.Refusal.{Refusal}
 use Rattle.answer_text.specs.declared.refusal.Refusal.TheVariants as refusal
 use Rattle.answer_text.specs.declared.refusal.VariableCause.{VariableCause}
 use Rattle.answer_text.specs.declared.refusal.VariableCause.TheVariants as cause
-use Rattle.answer_text.specs.ErrorValues.{Members, string, number, list, object, error_value}
+use Rattle.answer_text.specs.ErrorValues.{NamedValues, string, number, list, object, error_value}
 
 abbrev pub status_of : Refusal → ℕ
 status_of refusal.BadMessage = 400
@@ -51,7 +51,7 @@ cause_word cause.Missing = codes "missing"
 cause_word cause.Null = codes "null"
 cause_word cause.Kind = codes "kind"
 
-abbrev pub more_of : Refusal → Members
+abbrev pub more_of : Refusal → NamedValues
 more_of (refusal.BadJson at) = (codes "at", number at) ∷ []
 more_of (refusal.BadDocument at) = (codes "at", number at) ∷ []
 more_of (refusal.BadVariables variable why) = (codes "variable", string variable) ∷ ((codes "cause", string (cause_word why)) ∷ [])

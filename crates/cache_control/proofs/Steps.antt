@@ -8,11 +8,11 @@ use Rattle.cache_control.specs.declared.rules.Rules.{Rules}
 use Rattle.cache_control.specs.Grammar.{Directive}
 use Rattle.cache_control.specs.Reading.{Element, read_element, followed, read, after_comma, directives_of}
 use Rattle.cache_control.specs.Rules.{has_name, argument_seconds, first_seconds, has_directive}
-use Rattle.cache_control.specs.Counting.{with_more}
+use Rattle.cache_control.specs.Counting.{with_directives}
 
 -- some number of elements, enough for the rest, gives what the whole gives
 abbrev pub Holds : Option Rules → Rules → List ℕ → Type 0
-Holds whole rules rest = (k : ℕ) × (length rest < k) × (whole ≡ option_map (with_more rules) (read k rest))
+Holds whole rules rest = (k : ℕ) × (length rest < k) × (whole ≡ option_map (with_directives rules) (read k rest))
 
 first-append : (name : List ℕ) (known : Option ℕ) (a b : List Directive) → option_or (option_or known (first_seconds name a)) (first_seconds name b) ≡ option_or known (first_seconds name (a ++ b))
 first-append name known a b = by known (find (has_name name) a) (find (has_name name) b) ∙ ap (λ o. option_or known (option_map argument_seconds o)) (sym (find-append (has_name name) a b))
@@ -42,7 +42,7 @@ or_both false false false true b' = refl
 or_both false false false false b' = refl
 
 -- what follows is added in two steps as in one
-pub with_more-append : (rules : Rules) (a b : List Directive) → with_more (with_more rules a) b ≡ with_more rules (a ++ b)
+pub with_more-append : (rules : Rules) (a b : List Directive) → with_directives (with_directives rules a) b ≡ with_directives rules (a ++ b)
 with_more-append rules a b =
     let s : option_or (option_or rules.shared (first_seconds (codes "s-maxage") a)) (first_seconds (codes "s-maxage") b) ≡ option_or rules.shared (first_seconds (codes "s-maxage") (a ++ b)) = first-append (codes "s-maxage") rules.shared a b in
     let m : option_or (option_or rules.max_age (first_seconds (codes "max-age") a)) (first_seconds (codes "max-age") b) ≡ option_or rules.max_age (first_seconds (codes "max-age") (a ++ b)) = first-append (codes "max-age") rules.max_age a b in
@@ -54,16 +54,16 @@ module _ (whole : Option Rules) (rules : Rules) (rest : List ℕ) where
   -- no element, no list
   pub stops_unread : Holds whole rules rest → None ≡ read_element rest → None ≡ whole
   stops_unread (zero, below, same) e = absurd (omega arith)
-  stops_unread (suc k, below, same) e = ap (λ o. option_map (with_more rules) (option_and_then (λ x. followed (read k) x.directives x.rest) o)) e ∙ sym same
+  stops_unread (suc k, below, same) e = ap (λ o. option_map (with_directives rules) (option_and_then (λ x. followed (read k) x.directives x.rest) o)) e ∙ sym same
 
   module _ (element : Element) (is : Some element ≡ read_element rest) where
-    read_once : (k : ℕ) → option_map (with_more rules) (followed (read k) element.directives element.rest) ≡ option_map (with_more rules) (read (suc k) rest)
-    read_once k = ap (λ o. option_map (with_more rules) (option_and_then (λ x. followed (read k) x.directives x.rest) o)) is
+    read_once : (k : ℕ) → option_map (with_directives rules) (followed (read k) element.directives element.rest) ≡ option_map (with_directives rules) (read (suc k) rest)
+    read_once k = ap (λ o. option_map (with_directives rules) (option_and_then (λ x. followed (read k) x.directives x.rest) o)) is
 
     -- the text ends
-    pub ends : Holds whole rules rest → element.rest ≡ [] → Some (with_more rules element.directives) ≡ whole
+    pub ends : Holds whole rules rest → element.rest ≡ [] → Some (with_directives rules element.directives) ≡ whole
     ends (zero, below, same) e = absurd (omega arith)
-    ends (suc k, below, same) e = ap (λ l. option_map (with_more rules) (followed (read k) element.directives l)) (sym e) ∙ read_once k ∙ sym same
+    ends (suc k, below, same) e = ap (λ l. option_map (with_directives rules) (followed (read k) element.directives l)) (sym e) ∙ read_once k ∙ sym same
 
     at_comma : (next : List ℕ → Option (List Directive)) (l : List ℕ) (o : Option (List ℕ)) → (l ≡ [] → ⊥) → after_comma l ≡ o → followed next element.directives l ≡ option_map (λ others. element.directives ++ others) (option_and_then next o)
     at_comma next [] o some e = absurd (some refl)
@@ -72,19 +72,19 @@ module _ (whole : Option Rules) (rules : Rules) (rest : List ℕ) where
     -- neither the end nor a comma
     pub stops_there : Holds whole rules rest → (element.rest ≡ [] → ⊥) → after_comma element.rest ≡ None → None ≡ whole
     stops_there (zero, below, same) some e = absurd (omega arith)
-    stops_there (suc k, below, same) some e = sym (ap (option_map (with_more rules)) (at_comma (read k) element.rest None some e)) ∙ read_once k ∙ sym same
+    stops_there (suc k, below, same) some e = sym (ap (option_map (with_directives rules)) (at_comma (read k) element.rest None some e)) ∙ read_once k ∙ sym same
 
     -- a comma
-    pub goes_on : (later : List ℕ) → Holds whole rules rest → (element.rest ≡ [] → ⊥) → after_comma element.rest ≡ Some later → length later < length rest → Holds whole (with_more rules element.directives) later
+    pub goes_on : (later : List ℕ) → Holds whole rules rest → (element.rest ≡ [] → ⊥) → after_comma element.rest ≡ Some later → length later < length rest → Holds whole (with_directives rules element.directives) later
     goes_on later (zero, below, same) some e shorter = absurd (omega arith)
-    goes_on later (suc k, below, same) some e shorter = (k, omega arith, same ∙ sym (read_once k) ∙ ap (option_map (with_more rules)) (at_comma (read k) element.rest (Some later) some e) ∙ by (read k later))
+    goes_on later (suc k, below, same) some e shorter = (k, omega arith, same ∙ sym (read_once k) ∙ ap (option_map (with_directives rules)) (at_comma (read k) element.rest (Some later) some e) ∙ by (read k later))
       where
-        by : (o : Option (List Directive)) → option_map (with_more rules) (option_map (λ others. element.directives ++ others) o) ≡ option_map (with_more (with_more rules element.directives)) o
+        by : (o : Option (List Directive)) → option_map (with_directives rules) (option_map (λ others. element.directives ++ others) o) ≡ option_map (with_directives (with_directives rules element.directives)) o
         by None = refl
         by (Some others) = ap Some (sym (with_more-append rules element.directives others))
 
 -- at the start nothing is read
-pub starts : (text : List ℕ) (rules : Rules) → Holds (option_map (with_more rules) (directives_of text)) rules text
+pub starts : (text : List ℕ) (rules : Rules) → Holds (option_map (with_directives rules) (directives_of text)) rules text
 unfolding directives_of
 starts text rules = (suc (length text), omega arith, refl)
 

@@ -9,8 +9,8 @@ use Rattle.cache_control.specs.Rules.{first_seconds, has_directive}
 abbrev pub no_rules : Rules
 no_rules = record { shared = None; max_age = None; private = false; no_store = false }
 
-abbrev pub with_more : Rules → List Directive → Rules
-with_more rules directives = record {
+abbrev pub with_directives : Rules → List Directive → Rules
+with_directives rules directives = record {
   shared = option_or rules.shared (first_seconds (codes "s-maxage") directives);
   max_age = option_or rules.max_age (first_seconds (codes "max-age") directives);
   private = rules.private || has_directive (codes "private") directives;

@@ -5,7 +5,7 @@ ghost use Rattle.cache_control.specs.Octets.{is_blank};
 ghost use Rattle.cache_control.specs.Reading.{directives_of};
 ghost use Rattle.cache_control.specs.Rules.{seconds_of, has_name, argument_seconds, first_seconds, trimmed};
 ghost use Rattle.cache_control.specs.Seen.{seen_directive, seen_directives};
-ghost use Rattle.cache_control.specs.Counting.{no_rules, with_more, said};
+ghost use Rattle.cache_control.specs.Counting.{no_rules, with_directives, said};
 
 use crate::read::{Directive, after_blanks, after_comma, is_blank, read_element};
 use cache_terms::Verdict;
@@ -34,7 +34,7 @@ pub(crate) fn no_rules() -> Rules
 
 /// What a text's directives say; None where it is no list of directives. Goes over its bytes once.
 pub(crate) fn rules_of(text: &[u8]) -> Option<Rules>
-    ensures { result ≡ option_map (with_more no_rules) (directives_of text.now) }
+    ensures { result ≡ option_map (with_directives no_rules) (directives_of text.now) }
 {
     let mut rules = no_rules();
     let mut rest = text;
@@ -61,7 +61,7 @@ pub(crate) fn said(rules: Rules, age: u64) -> Verdict
 }
 
 fn noted(rules: Rules, directive: &Option<Directive>) -> Rules
-    ensures { result ≡ with_more rules (seen_directives directive.now) }
+    ensures { result ≡ with_directives rules (seen_directives directive.now) }
 {
     match directive {
         None => rules,

@@ -27,7 +27,7 @@ use Rattle.case_file.specs.declared.content.Case.{Case}
 use Rattle.case_file.specs.declared.fault.CaseMember.{CaseMember}
 use Rattle.case_file.specs.declared.fault.CaseFault.{CaseFault}
 use Rattle.case_file.specs.declared.fault.CaseFault.TheVariants as fault
-use Rattle.case_file.specs.Parts.{Parts, parts_of, Lacks}
+use Rattle.case_file.specs.Parts.{Parts, parts_of, LacksPart}
 use Rattle.case_file.specs.Cases.{Content, config_of, content_of, content, sited, site_of, IsPlanned, no_plans, planned, IsTyped, no_schema, typed, IsMadeOf, IsCase, no_json, json, OrMemory, Builds, unread, is_sdl_memory, is_plan_memory}
 
 module _ (parts : Parts) where
@@ -67,10 +67,10 @@ pub site_none : (parts : Parts) (schema : List TypeDef) → IsSchemaText schema 
 site_none parts schema is_schema entries is_plans config is bad =
     without_site parts schema is_schema entries is_plans (λ e. bad (ap (λ (k : Config). faults_of k.subs schema entries) is ∙ e))
 
-pub lacking : (v : Json) (f : CaseFault) → Lacks (parts_of v) f → IsMadeOf (parts_of v) (Err f)
+pub lacking : (v : Json) (f : CaseFault) → LacksPart (parts_of v) f → IsMadeOf (parts_of v) (Err f)
 lacking v f h = lacks (parts_of v) h
   where
-    lacks : (parts : Result Parts CaseMember) → Lacks parts f → IsMadeOf parts (Err f)
+    lacks : (parts : Result Parts CaseMember) → LacksPart parts f → IsMadeOf parts (Err f)
     lacks (Err m) is = ap (λ g. Err g) is
     lacks (Ok parts) is = absurd is
 

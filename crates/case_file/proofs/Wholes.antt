@@ -8,7 +8,7 @@ use Rattle.json_value.specs.declared.tree.Json.{Json, out-Json}
 use Rattle.json_value.specs.declared.tree.Json.TheVariants as j
 use Rattle.json_value.specs.Numbers.{is_digit, is_digit_1_9, AreDigits, IsInt, digits}
 use Rattle.json_value.specs.Numbers as numbers
-use Rattle.json_value.specs.Wholes.{IsWholeText, IsWhole}
+use Rattle.json_value.specs.Wholes.{IsWholeText, IsWholeNumber}
 use Rattle.json_value.proofs.Cases.{out-number}
 use Rattle.json_value.proofs.Digits.{int_digits, digits_int}
 use Rattle.case_file.specs.Forms.{is_int, int_from, number_written, number_at, number_of}
@@ -35,13 +35,13 @@ by_test : (text : List ℕ) (t : Bool) → (is_int text && nat_le (length text) 
 by_test text false is none = refl
 by_test text true is none = let h = and_parts (is_int text) (nat_le (length text) 15) is in absurd (none (digits_value 10 text) (is_int_of text h.0, leb-true (length text) 15 h.1, refl))
 
-written_is : (r : Option ℕ) (text : List ℕ) → MatchOption r ((n : ℕ) → IsWhole (j.Number text) n → ⊥) (IsWhole (j.Number text)) → r ≡ number_written text
+written_is : (r : Option ℕ) (text : List ℕ) → MatchOption r ((n : ℕ) → IsWholeNumber (j.Number text) n → ⊥) (IsWholeNumber (j.Number text)) → r ≡ number_written text
 written_is None text h = by_test text (is_int text && nat_le (length text) 15) refl (λ n w. h n (text, refl, w))
 written_is (Some n) text (t, e, (int, short, is)) =
     let same : text ≡ t = cc in
     let test : (is_int text && nat_le (length text) 15) ≡ true = rw same (and_from (is_int t) (nat_le (length t) 15) (int_is t int) (le-leb (length t) 15 short)) in
     rw (test, same, is) refl
 
-pub number_is : (r : Option ℕ) (v : Json) (text : List ℕ) → v ≡ j.Number text → MatchOption r ((n : ℕ) → IsWhole v n → ⊥) (IsWhole v) → r ≡ number_of v
+pub number_is : (r : Option ℕ) (v : Json) (text : List ℕ) → v ≡ j.Number text → MatchOption r ((n : ℕ) → IsWholeNumber v n → ⊥) (IsWholeNumber v) → r ≡ number_of v
 number_is r v text is h =
-    written_is r text (subst (λ (w : Json). MatchOption r ((n : ℕ) → IsWhole w n → ⊥) (IsWhole w)) is h) ∙ sym (ap number_at (ap out-Json is ∙ out-number text))
+    written_is r text (subst (λ (w : Json). MatchOption r ((n : ℕ) → IsWholeNumber w n → ⊥) (IsWholeNumber w)) is h) ∙ sym (ap number_at (ap out-Json is ∙ out-number text))

@@ -35,8 +35,8 @@ pub record Parts : Type 0 where
   pub replies : List Scripted
 
 -- what was drawn from them
-abbrev pub said : drawn.Parts → Parts
-said p = record { schema = p.schema.now; plans = p.plans.now; subs = p.subs; limits = p.limits; requests = p.requests; replies = p.replies }
+abbrev pub parts_said : drawn.Parts → Parts
+parts_said p = record { schema = p.schema.now; plans = p.plans.now; subs = p.subs; limits = p.limits; requests = p.requests; replies = p.replies }
 
 -- a member that has to be there, in its form
 abbrev pub needed : {X Y : Type 0} → CaseMember → Option X → (X → Result Y CaseMember) → Result Y CaseMember
@@ -56,6 +56,6 @@ parts_of v =
     Ok (record { schema = schema; plans = plans; subs = subs; limits = record { events = events; bytes = bytes }; requests = requests; replies = replies }))))))))
 
 -- the fault names the bad member
-abbrev pub Lacks : Result Parts CaseMember → CaseFault → Type 0
-Lacks (Err m) f = f ≡ fault.Member m
-Lacks (Ok parts) f = ⊥
+abbrev pub LacksPart : Result Parts CaseMember → CaseFault → Type 0
+LacksPart (Err m) f = f ≡ fault.Member m
+LacksPart (Ok parts) f = ⊥

@@ -5,7 +5,7 @@ ghost use Rattle.cache_model.specs.State.{IsWithinRanges};
 ghost use Rattle.plan_tree.specs.Lawful.{differ};
 ghost use Rattle.router_config.specs.Rules.{names};
 ghost use Rattle.case_file.specs.declared.fault.CaseFault.TheVariants as faults;
-ghost use Rattle.case_file.specs.Parts.{parts_of, said, Lacks};
+ghost use Rattle.case_file.specs.Parts.{parts_of, parts_said, LacksPart};
 
 use crate::content::Timed;
 use crate::fault::{CaseFault, CaseMember};
@@ -34,10 +34,10 @@ pub struct Parts<'a> {
 
 /// The members of a case, or the first that is missing or of another form.
 pub fn read_parts<'a>(alloc: Global, value: &'a Json) -> Result<Parts<'a>, CaseFault>
-    ensures parts { IfOk result (λ p. parts_of value.now ≡ Ok (said p)) }
+    ensures parts { IfOk result (λ p. parts_of value.now ≡ Ok (parts_said p)) }
     ensures limits { IfOk result (λ p. IsWithinRanges p.limits) }
     ensures distinct { IfOk result (λ p. IsTrue (differ (names p.subs))) }
-    ensures fault { IfErr result (λ f. f ≢ faults.Memory → Lacks (parts_of value.now) f) }
+    ensures fault { IfErr result (λ f. f ≢ faults.Memory → LacksPart (parts_of value.now) f) }
 {
     let Some(schema) = text_member(value, "schema") else {
         return Err(CaseFault::Member(CaseMember::Schema));

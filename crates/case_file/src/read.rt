@@ -7,7 +7,7 @@ ghost use Rattle.plan_tree.specs.Lawful.{differ};
 ghost use Rattle.router_config.specs.Rules.{names};
 ghost use Rattle.router_config.specs.Lawful.{IsLawful, IsLawfulConfig};
 ghost use Rattle.case_file.specs.declared.fault.CaseFault.TheVariants as faults;
-ghost use Rattle.case_file.specs.Parts.{parts_of, said};
+ghost use Rattle.case_file.specs.Parts.{parts_of, parts_said};
 ghost use Rattle.case_file.specs.Cases as spec;
 ghost use Rattle.case_file.specs.Cases.{IsCase, IsTyped, IsMadeOf, OrMemory, content};
 
@@ -111,7 +111,7 @@ fn site_of(config: Config, schema: Schema, plans: PlanBook) -> Result<Option<Sit
 fn case_of<'a>(alloc: Global, parts: Parts<'a>) -> Result<Case, CaseFault>
     requires limits { IsWithinRanges parts.limits }
     requires distinct { IsTrue (differ (names parts.subs)) }
-    ensures case { OrMemory (IsTyped (said parts.entry)) result }
+    ensures case { OrMemory (IsTyped (parts_said parts.entry)) result }
     ensures lawful { IfOk result (λ c. IsLawful c.site) }
 {
     let Parts {

@@ -4,7 +4,7 @@ use Rattle.line_base.specs.Lines.{Line, Entry}
 use Rattle.line_base.specs.declared.script.Told as tellings
 use Rattle.line_base.specs.Told.{Script, script_line, entry_of, entries_told}
 use Rattle.partial_fetch.specs.Headline.{OverFirst}
-use Rattle.case_run.specs.Playing.{IsOne, script_in}
+use Rattle.case_run.specs.Playing.{IsOneLine, script_in}
 
 pub entries-drop : (n : ℕ) (ts : List tellings.Told) → entries_told (drop n ts) ≡ drop n (entries_told ts)
 entries-drop zero ts = refl
@@ -22,7 +22,7 @@ since_is old new ts us n before after is =
     entries-drop n us ∙ ap (drop n) after ∙ ap (λ k. drop k new) count
 
 -- over one line: it is one afterwards, and this was done over it
-pub over_one : (lines others : List Script) (P : Line → Line → Type 0) → IsOne lines → OverFirst lines others (λ l m. P (script_line l) (script_line m)) → IsOne others × P (script_line (script_in lines)) (script_line (script_in others))
+pub over_one : (lines others : List Script) (P : Line → Line → Type 0) → IsOneLine lines → OverFirst lines others (λ l m. P (script_line l) (script_line m)) → IsOneLine others × P (script_line (script_in lines)) (script_line (script_in others))
 over_one [] others P (l, e) over = absurd cc
 over_one (k ∷ ks) [] P (l, e) over = absurd over
 over_one (k ∷ ks) (m ∷ ms) P (l, e) over =

@@ -12,18 +12,18 @@ use Rattle.case_file.specs.declared.content.Timed.{Timed}
 use Rattle.still_clock.specs.declared.still.Still.{Still}
 use Rattle.still_clock.specs.Clocks.{told}
 use Rattle.case_run.specs.Texts.{request_text}
-use Rattle.case_run.specs.Playing.{IsOne, script_in, standing, Tells}
+use Rattle.case_run.specs.Playing.{IsOneLine, script_in, case_state, Tells}
 use Rattle.case_run.proofs.Standing.{over_one}
 use Rattle.case_run.proofs.Stills.{still_is}
 
-pub first_log : (lines : List Script) (line : Script) → IsOne lines → line ≡ get_or lines 0 line → line.log ≡ (script_in lines).log
+pub first_log : (lines : List Script) (line : Script) → IsOneLine lines → line ≡ get_or lines 0 line → line.log ≡ (script_in lines).log
 first_log [] line (l, e) is = absurd cc
 first_log (k ∷ ks) line one is = ap (λ (s : Script). s.log) is
 
 pub tells : (site : Site) (timed : Timed) (s t : Seen) (lines others : List Script) (clock : Still) (a : Answer) (text : List ℕ)
-    → IsOne lines → OverFirst lines others (λ l m. Answers site timed.request s t (script_line l) (script_line m) (Some (timed.moment ∷ [])) (told clock) a)
+    → IsOneLine lines → OverFirst lines others (λ l m. Answers site timed.request s t (script_line l) (script_line m) (Some (timed.moment ∷ [])) (told clock) a)
     → OverFirst lines others (λ l m. KeepsPromise site timed.request t (script_line l) (script_line m) a)
-    → OverFirst lines others (λ l m. HasCauses (script_line l) (script_line m) a) → text ≡ request_text (drop (length (script_in lines).log) (script_in others).log) a → Tells site timed (standing s lines) (standing t others) text
+    → OverFirst lines others (λ l m. HasCauses (script_line l) (script_line m) a) → text ≡ request_text (drop (length (script_in lines).log) (script_in others).log) a → Tells site timed (case_state s lines) (case_state t others) text
 tells site timed s t lines others clock a text one over promise causes is =
     let o = over_one lines others (λ l m. Answers site timed.request s t l m (Some (timed.moment ∷ [])) (told clock) a) one over in
     let p = over_one lines others (λ l m. KeepsPromise site timed.request t l m a) one promise in

@@ -12,7 +12,7 @@ use Rattle.case_run.specs.declared.ending.Ending.{Ending}
 use Rattle.case_run.specs.declared.ending.Ending.TheVariants as ending
 use Rattle.case_run.specs.Texts.{refusal_text}
 use Rattle.case_run.specs.Runs.{Runs, opening}
-use Rattle.case_run.specs.Asking.{most, IsRefusal, MayWrite, too_long, bad, good, EndsWith, Asks}
+use Rattle.case_run.specs.Asking.{most, RefusesCase, MayWrite, too_long, bad, good, EndsWith, Asks}
 
 ends_weaker : (T U : List ℕ → Extent → Type 0) (old new : Output) (e : Ending) → ((out : List ℕ) (x : Extent) → T out x → U out x) → EndsWith T old new e → EndsWith U old new e
 ends_weaker T U old new ending.Finished h w = (w.0, h _ _ w.1, w.2)
@@ -32,13 +32,13 @@ module _ (old new : Outside) (e : Ending) where
       by_ending ending.NoMemory w = inr w
       by_ending ending.SourceFailed w = absurd w
 
-  pub refused_size : (count : ℕ) → TakesLong old.input.left new.input.left most count → EndsWith (IsRefusal (codes "case refused size\n")) old.output new.output e → Asks old new e
+  pub refused_size : (count : ℕ) → TakesLong old.input.left new.input.left most count → EndsWith (RefusesCase (codes "case refused size\n")) old.output new.output e → Asks old new e
   refused_size count taken w =
-      asks (ends_weaker (IsRefusal (codes "case refused size\n")) (MayWrite old.input.left new.input.left) old.output new.output e (λ out x says. too_long count taken says) w)
+      asks (ends_weaker (RefusesCase (codes "case refused size\n")) (MayWrite old.input.left new.input.left) old.output new.output e (λ out x says. too_long count taken says) w)
 
-  pub refused_case : (bytes : List ℕ) (f : CaseFault) → f ≢ fault.Memory → TakesWhole old.input.left new.input.left most bytes → IsCase bytes (Err f) → EndsWith (IsRefusal (refusal_text f)) old.output new.output e → Asks old new e
+  pub refused_case : (bytes : List ℕ) (f : CaseFault) → f ≢ fault.Memory → TakesWhole old.input.left new.input.left most bytes → IsCase bytes (Err f) → EndsWith (RefusesCase (refusal_text f)) old.output new.output e → Asks old new e
   refused_case bytes f is_fault taken is w =
-      asks (ends_weaker (IsRefusal (refusal_text f)) (MayWrite old.input.left new.input.left) old.output new.output e (λ out x says. bad bytes f is_fault taken is says) w)
+      asks (ends_weaker (RefusesCase (refusal_text f)) (MayWrite old.input.left new.input.left) old.output new.output e (λ out x says. bad bytes f is_fault taken is says) w)
 
   pub asked : (bytes : List ℕ) (c : Case) → TakesWhole old.input.left new.input.left most bytes → IsCase bytes (Ok (content c)) → EndsWith (Runs c.site (opening c.site.config.limits c.replies) c.requests) old.output new.output e → Asks old new e
   asked bytes c taken is w =

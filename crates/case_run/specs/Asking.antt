@@ -20,15 +20,15 @@ abbrev pub most : ℕ
 most = 1048576
 
 -- this text refuses the whole case
-abbrev pub IsRefusal : List ℕ → List ℕ → Extent → Type 0
-IsRefusal text out extent = (out ≡ text) × (extent ≡ Refused)
+abbrev pub RefusesCase : List ℕ → List ℕ → Extent → Type 0
+RefusesCase text out extent = (out ≡ text) × (extent ≡ Refused)
 
 -- what may be written for the input, and how far it goes
 pub data MayWrite (left rest : Option (List ℕ)) (out : List ℕ) (extent : Extent) : Type 0 where
   -- it is too long
-  too_long : (count : ℕ) → TakesLong left rest most count → IsRefusal (codes "case refused size\n") out extent → MayWrite left rest out extent
+  too_long : (count : ℕ) → TakesLong left rest most count → RefusesCase (codes "case refused size\n") out extent → MayWrite left rest out extent
   -- taken to its end, it is no case: this is its first fault
-  bad : (bytes : List ℕ) (f : CaseFault) → f ≢ fault.Memory → TakesWhole left rest most bytes → IsCase bytes (Err f) → IsRefusal (refusal_text f) out extent → MayWrite left rest out extent
+  bad : (bytes : List ℕ) (f : CaseFault) → f ≢ fault.Memory → TakesWhole left rest most bytes → IsCase bytes (Err f) → RefusesCase (refusal_text f) out extent → MayWrite left rest out extent
   -- taken to its end, it is a case, and this may be written for its requests over a line that answers by its replies
   good : (bytes : List ℕ) (c : Case) → TakesWhole left rest most bytes → IsCase bytes (Ok (content c)) → Runs c.site (opening c.site.config.limits c.replies) c.requests out extent → MayWrite left rest out extent
 

@@ -10,21 +10,21 @@ use Rattle.partial_fetch.specs.declared.answer.Answer.{Answer}
 use Rattle.case_file.specs.declared.content.Timed.{Timed}
 use Rattle.case_run.specs.declared.ending.Ending.{Ending}
 use Rattle.case_run.specs.declared.ending.Ending.TheVariants as ending
-use Rattle.case_run.specs.Runs.{Standing, AnswersTimed, text_of}
+use Rattle.case_run.specs.Runs.{CaseState, AnswersTimed, text_of}
 
 -- there is one line
-abbrev pub IsOne : List Script → Type 0
-IsOne lines = (line : Script) × (lines ≡ line ∷ [])
+abbrev pub IsOneLine : List Script → Type 0
+IsOneLine lines = (line : Script) × (lines ≡ line ∷ [])
 
 abbrev pub script_in : List Script → Script
 script_in [] = record { replies = []; log = [] }
 script_in (line ∷ lines) = line
 
-abbrev pub standing : Seen → List Script → Standing
-standing cache lines = record { cache = cache; line = script_in lines }
+abbrev pub case_state : Seen → List Script → CaseState
+case_state cache lines = record { cache = cache; line = script_in lines }
 
 -- the answer to a request
-module _ (site : Site) (timed : Timed) (old new : Standing) (before after : Output) where
+module _ (site : Site) (timed : Timed) (old new : CaseState) (before after : Output) where
   abbrev pub PlaysOne : Option Ending → Type 0
   PlaysOne None = (a : Answer) × AnswersTimed site timed old new a × Appends before.written after.written (text_of old new a)
   PlaysOne (Some ending.SinkFailed) = Rose before.faults after.faults × ((a : Answer) × AnswersTimed site timed old new a × AppendsFront before.written after.written (text_of old new a))
@@ -34,5 +34,5 @@ module _ (site : Site) (timed : Timed) (old new : Standing) (before after : Outp
   PlaysOne (Some ending.SourceFailed) = ⊥
 
 -- the text that is to be written for a request that was answered
-abbrev pub Tells : Site → Timed → Standing → Standing → List ℕ → Type 0
+abbrev pub Tells : Site → Timed → CaseState → CaseState → List ℕ → Type 0
 Tells site timed old new text = (a : Answer) × AnswersTimed site timed old new a × (text ≡ text_of old new a)

@@ -19,17 +19,17 @@ use Rattle.case_run.specs.Texts.{request_text}
 
 -- what stands between two requests: what is seen of the cache, and of the line the replies that are unused, by which it
 -- answers, and the calls that it has told
-pub record Standing : Type 0 where
+pub record CaseState : Type 0 where
   pub cache : Seen
   pub line : Script
 
 -- at first the cache is empty, in epoch 0, the line answers by these replies, and no call was made
-abbrev pub opening : Limits → List Scripted → Standing
+abbrev pub opening : Limits → List Scripted → CaseState
 opening limits replies = record { cache = seen_alone (opened limits 0) true; line = record { replies = replies; log = [] } }
 
 -- one request, at its moment: it is answered over the cache and the line, whose answers are the replies that it had, its
 -- answer is as promised, and each error has its cause
-pub record AnswersTimed (site : Site) (timed : Timed) (old new : Standing) (a : Answer) : Type 0 where
+pub record AnswersTimed (site : Site) (timed : Timed) (old new : CaseState) (a : Answer) : Type 0 where
   pub after : Option (List ℕ)
   pub answers : Answers site timed.request old.cache new.cache (script_line old.line) (script_line new.line) (Some (timed.moment ∷ [])) after a
   pub still : IsStill timed.moment after
@@ -37,10 +37,10 @@ pub record AnswersTimed (site : Site) (timed : Timed) (old new : Standing) (a : 
   pub causes : HasCauses (script_line old.line) (script_line new.line) a
 
 -- the calls of the request are those that the line has told since
-abbrev pub sent : Standing → Standing → List Entry
+abbrev pub sent : CaseState → CaseState → List Entry
 sent old new = drop (length old.line.log) new.line.log
 
-abbrev pub text_of : Standing → Standing → Answer → List ℕ
+abbrev pub text_of : CaseState → CaseState → Answer → List ℕ
 text_of old new a = request_text (sent old new) a
 
 -- what may be written from these requests on, where it ends before the first of them
@@ -51,8 +51,8 @@ Ends (timed ∷ timeds) out Whole = ⊥
 Ends timeds out Refused = ⊥
 
 -- what may be written for these requests, one after the other
-abbrev pub Runs : Site → Standing → List Timed → List ℕ → Extent → Type 0
+abbrev pub Runs : Site → CaseState → List Timed → List ℕ → Extent → Type 0
 Runs site s [] out extent = Ends [] out extent
 Runs site s (timed ∷ timeds) out extent =
     Ends (timed ∷ timeds) out extent
-    ⊎ ((a : Answer) × (next : Standing) × (rest : List ℕ) × AnswersTimed site timed s next a × Runs site next timeds rest extent × (out ≡ text_of s next a ++ rest))
+    ⊎ ((a : Answer) × (next : CaseState) × (rest : List ℕ) × AnswersTimed site timed s next a × Runs site next timeds rest extent × (out ≡ text_of s next a ++ rest))

@@ -2,7 +2,7 @@ ghost use Rattle.std.specs.Prelude.{◌≡◌, ◌≤◌, codes};
 ghost use Rattle.router_config.specs.Lawful.{IsLawful};
 ghost use Rattle.rehearsal.specs.Outside.{input, output, outside};
 ghost use Rattle.case_run.specs.Runs.{Runs, opening};
-ghost use Rattle.case_run.specs.Asking.{IsAsked, Asks, EndsWith, IsRefusal};
+ghost use Rattle.case_run.specs.Asking.{IsAsked, Asks, EndsWith, RefusesCase};
 
 use crate::ending::{Ending, status};
 use crate::play::play;
@@ -94,7 +94,7 @@ fn perform<K: Sink>(alloc: Global, case: Case, sink: &mut K) -> Ending
 
 // Refuses the case.
 fn refuse<K: Sink>(sink: &mut K, text: &str) -> Ending
-    ensures ends { EndsWith (IsRefusal text.now)
+    ensures ends { EndsWith (RefusesCase text.now)
         (output (K.written sink.old) (K.faults sink.old))
         (output (K.written sink.new) (K.faults sink.new)) result }
     ensures later { K.faults sink.old ≤ K.faults sink.new }

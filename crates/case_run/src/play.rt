@@ -5,7 +5,7 @@ ghost use Rattle.router_config.specs.Lawful.{IsLawful};
 ghost use Rattle.rehearsal.specs.Outside.{output};
 ghost use Rattle.case_run.specs.Asking.{EndsWith};
 ghost use Rattle.case_run.specs.Runs.{Runs};
-ghost use Rattle.case_run.specs.Playing.{IsOne, script_in, standing, PlaysOne, Tells};
+ghost use Rattle.case_run.specs.Playing.{IsOneLine, script_in, case_state, PlaysOne, Tells};
 ghost use Rattle.line_base.specs.Told.{entries_told};
 
 use crate::ending::Ending;
@@ -22,7 +22,7 @@ use still_clock::Still;
 /// The calls that the one line has told.
 #[tactic(auto, using(crate::proofs::Telling::first_log))]
 fn calls_told(lines: &[ScriptLine]) -> &[Told]
-    requires one { IsOne lines.now }
+    requires one { IsOneLine lines.now }
     ensures { entries_told result.now ≡ (script_in lines.now).log }
 {
     lines[0].log().as_slice()
@@ -48,10 +48,10 @@ fn tell(
     lines: &mut Vec<ScriptLine>,
 ) -> Result<Text, Memory>
     requires lawful { IsLawful site.now }
-    requires one { IsOne lines.old.items }
-    ensures one { IsOne lines.new.items }
-    ensures told { IfOk result (Tells site.now timed.now (standing cache.old lines.old.items)
-        (standing cache.new lines.new.items)) }
+    requires one { IsOneLine lines.old.items }
+    ensures one { IsOneLine lines.new.items }
+    ensures told { IfOk result (Tells site.now timed.now (case_state cache.old lines.old.items)
+        (case_state cache.new lines.new.items)) }
 {
     let before = calls_told(lines.as_slice()).len();
     let mut clock = Still {
@@ -72,10 +72,10 @@ fn play_one<K: Sink>(
     sink: &mut K,
 ) -> Option<Ending>
     requires lawful { IsLawful site.now }
-    requires one { IsOne lines.old.items }
-    ensures one { IsOne lines.new.items }
-    ensures plays { PlaysOne site.now timed.now (standing cache.old lines.old.items)
-        (standing cache.new lines.new.items) (output (K.written sink.old) (K.faults sink.old))
+    requires one { IsOneLine lines.old.items }
+    ensures one { IsOneLine lines.new.items }
+    ensures plays { PlaysOne site.now timed.now (case_state cache.old lines.old.items)
+        (case_state cache.new lines.new.items) (output (K.written sink.old) (K.faults sink.old))
         (output (K.written sink.new) (K.faults sink.new)) result }
     ensures later { K.faults sink.old ≤ K.faults sink.new }
 {
@@ -98,8 +98,8 @@ pub fn play<K: Sink>(
     sink: &mut K,
 ) -> Ending
     requires lawful { IsLawful site.now }
-    requires one { IsOne lines.old.items }
-    ensures ends { EndsWith (Runs site.now (standing cache.old lines.old.items) timeds.now)
+    requires one { IsOneLine lines.old.items }
+    ensures ends { EndsWith (Runs site.now (case_state cache.old lines.old.items) timeds.now)
         (output (K.written sink.old) (K.faults sink.old))
         (output (K.written sink.new) (K.faults sink.new)) result }
     ensures later { K.faults sink.old ≤ K.faults sink.new }

@@ -4,7 +4,7 @@ use Rattle.std.specs.Io.KnownBytes.{Appends, Keeps}
 use Rattle.flow_base.specs.Causes.{Rose, AppendsFront}
 use Rattle.fedrouter.specs.declared.words.Command.{Command}
 use Rattle.fedrouter.specs.declared.words.Command.TheVariants as command
-use Rattle.fedrouter.specs.Words.{IsAsked}
+use Rattle.fedrouter.specs.Words.{IsCommandOf}
 use Rattle.rehearsal.specs.Outside.{Output, Outside}
 use Rattle.rehearsal.specs.Rehearsing.{IsRehearsed}
 use Rattle.case_run.specs.Asking as case
@@ -45,7 +45,7 @@ Performs None old status new = OnlyPrints (codes "words refused\n") 2 old status
 
 -- what the program does for these words, and its status
 abbrev pub Obeys : List (List ℕ) → Outside → ℕ → Outside → Type 0
-Obeys words old status new = (asked : Option Command) × IsAsked words asked × Performs asked old status new
+Obeys words old status new = (asked : Option Command) × IsCommandOf words asked × Performs asked old status new
 
 -- so it does for the words that are given, and where there are none for want of memory, the status is 9 and nothing is
 -- read or written

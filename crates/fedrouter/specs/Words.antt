@@ -37,9 +37,9 @@ IsCommandLine words command.Help = HasForm words (codes "--help") 1
 IsCommandLine words command.Version = HasForm words (codes "--version") 1
 
 -- the command that the words ask for, or none
-abbrev pub IsAsked : List (List ℕ) → Option Command → Type 0
-IsAsked words (Some c) = IsCommandLine words c
-IsAsked words None = (c : Command) → IsCommandLine words c → ⊥
+abbrev pub IsCommandOf : List (List ℕ) → Option Command → Type 0
+IsCommandOf words (Some c) = IsCommandLine words c
+IsCommandOf words None = (c : Command) → IsCommandLine words c → ⊥
 
 -- the words after the program's name
 abbrev pub after_name : {A : Type 0} → List (String A) → List (List ℕ)

@@ -1,6 +1,6 @@
 ghost use Rattle.std.specs.Prelude.{ℕ, ◌≤◌, ◌↔◌, codes, IsTrue, MatchOption};
 ghost use Rattle.script_lines.specs.Commands.{HasForm};
-ghost use Rattle.fedrouter.specs.Words.{IsAsked, IsWithin};
+ghost use Rattle.fedrouter.specs.Words.{IsCommandOf, IsWithin};
 
 use cache_terms::Limits;
 use flow_base::Text;
@@ -18,7 +18,7 @@ pub enum Command {
 
 /// The command that the words ask for, if they ask for one.
 pub fn read_words(words: &[Text]) -> Option<Command>
-    ensures { IsAsked words.now result }
+    ensures { IsCommandOf words.now result }
 {
     if has_form(words, "rehearse", 3) {
         return read_rehearse(words);
@@ -48,7 +48,7 @@ fn has_form(words: &[Text], verb: &str, count: usize) -> bool
 
 fn read_rehearse(words: &[Text]) -> Option<Command>
     requires { HasForm words.now (codes "rehearse") 3 }
-    ensures { IsAsked words.now result }
+    ensures { IsCommandOf words.now result }
 {
     let events = limit(words[1].as_str(), 8, 65536)?;
     let bytes = limit(words[2].as_str(), 16, 268435456)?;
@@ -57,7 +57,7 @@ fn read_rehearse(words: &[Text]) -> Option<Command>
 
 fn read_workload(words: &[Text]) -> Option<Command>
     requires { HasForm words.now (codes "workload") 2 }
-    ensures { IsAsked words.now result }
+    ensures { IsCommandOf words.now result }
 {
     let steps = limit(words[1].as_str(), 1, 100000)?;
     Some(Command::Workload(steps))

@@ -55,7 +55,14 @@ impl Model for MemSink {
 
     ghost Value = { Tape };
 
-    ghost view = { λ s. record { written = s.taken.items; limit = s.limit; pieces = s.pieces.items; failing = s.failing.items; writes = s.writes; faults = s.faults } };
+    ghost view = { λ s. record {
+      written = s.taken.items;
+      limit = s.limit;
+      pieces = s.pieces.items;
+      failing = s.failing.items;
+      writes = s.writes;
+      faults = s.faults;
+    } };
 
     ghost invariant = { λ s. s.limit ≤ vec_capacity s.taken };
 }
@@ -100,7 +107,8 @@ impl MemSink {
 }
 
 impl Sink for MemSink {
-    ghost use Rattle.std.specs.Prelude.{◌≡◌, ◌≢◌, ◌↔◌, ◌⊎◌, ◌+◌, ◌<◌, [], Some, Contains, IsErr, IfOk, OnOk, OnErr, length};
+    ghost use Rattle.std.specs.Prelude.{◌≡◌, ◌≢◌, ◌↔◌, ◌⊎◌, ◌+◌, ◌<◌, [], Some, Contains};
+    ghost use Rattle.std.specs.Prelude.{IsErr, IfOk, OnOk, OnErr, length};
     ghost use Rattle.std.specs.Io.{WritesAtMost};
     ghost use Rattle.std.specs.Io.KnownBytes.{WriteAppends};
     ghost use Rattle.flow_base.specs.Causes.{HasCause};

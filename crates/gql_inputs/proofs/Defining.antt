@@ -6,12 +6,12 @@ use Rattle.json_value.specs.declared.tree.Json.{Json}
 use Rattle.gql_terms.specs.declared.documents.VarDef.{VarDef}
 use Rattle.gql_types.specs.declared.definition.TypeDef.{TypeDef}
 use Rattle.json_paths.specs.declared.path.Spot.{Spot}
-use Rattle.gql_inputs.specs.Coercing.{Refuses}
+use Rattle.gql_inputs.specs.Coercing.{RefusesAt}
 use Rattle.gql_inputs.specs.declared.fault.Refusal.{Refusal}
 use Rattle.gql_inputs.specs.declared.fault.Refusal.TheVariants as refusals
 use Rattle.gql_inputs.specs.declared.fault.VarFault.{VarFault}
 use Rattle.gql_inputs.specs.declared.fault.VarFault.TheVariants as faults
-use Rattle.gql_inputs.specs.Variables.{Found, known, faulty, after_known, defines, Variable, Variables, no_more, passed_over, stops, another, with_known, Next, one_more, Faults, IsAt}
+use Rattle.gql_inputs.specs.Variables.{Coercion, known, faulty, after_known, defines, CoercesVariable, CoercesVariables, no_more, passed_over, stops, another, with_known, Next, one_more, Faults, IsPlacedAt}
 
 pub Faults-map : {P Q : Type 0} (e : VarFault) → Faults e P → (P → Q) → Faults e Q
 Faults-map (faults.Missing n) h f = f h
@@ -19,21 +19,21 @@ Faults-map (faults.Null n) h f = f h
 Faults-map (faults.WrongKind n q) h f = f h
 Faults-map faults.Memory h f = tt
 
-abbrev pub ahead : List (List ℕ × Json) → Found (List (List ℕ × Json)) → Found (List (List ℕ × Json))
+abbrev pub ahead : List (List ℕ × Json) → Coercion (List (List ℕ × Json)) → Coercion (List (List ℕ × Json))
 ahead made (known ms) = known (made ++ ms)
 ahead made (faulty e) = faulty e
 
-ahead-none : (o : Found (List (List ℕ × Json))) → ahead [] o ≡ o
+ahead-none : (o : Coercion (List (List ℕ × Json))) → ahead [] o ≡ o
 ahead-none (known ms) = refl
 ahead-none (faulty e) = refl
 
-ahead-known : (made : List (List ℕ × Json)) (name : List ℕ) (w : Option Json) (o : Found (List (List ℕ × Json))) → ahead (with_known name w made) o ≡ ahead made (after_known name w o)
+ahead-known : (made : List (List ℕ × Json)) (name : List ℕ) (w : Option Json) (o : Coercion (List (List ℕ × Json))) → ahead (with_known name w made) o ≡ ahead made (after_known name w o)
 ahead-known made name w (faulty e) = refl
 ahead-known made name None (known ms) = refl
 ahead-known made name (Some w) (known ms) = ap (λ (xs : List (List ℕ × Json)). known xs) (append_assoc made ((name, w) ∷ []) ms)
 
 pub record VarsRun (schema : List TypeDef) (given : List (List ℕ × Json)) (all before left : List VarDef) (made : List (List ℕ × Json)) : Type 0 where
-  pub goes : (o : Found (List (List ℕ × Json))) → Variables schema given before left o → Variables schema given [] all (ahead made o)
+  pub goes : (o : Coercion (List (List ℕ × Json))) → CoercesVariables schema given before left o → CoercesVariables schema given [] all (ahead made o)
 
 module _ (schema : List TypeDef) (given : List (List ℕ × Json)) (all : List VarDef) where
   pub vars_begin : VarsRun schema given all [] all []
@@ -41,7 +41,7 @@ module _ (schema : List TypeDef) (given : List (List ℕ × Json)) (all : List V
 
   module _ (i : ℕ) (made : List (List ℕ × Json)) (run : VarsRun schema given all (take i all) (drop i all) made) where
     module _ (d : VarDef) (within : i < length all) (is : d ≡ get_or all i d) where
-      into : (o : Found (List (List ℕ × Json))) → Variables schema given (take i all) (d ∷ drop (suc i) all) o → Variables schema given [] all (ahead made o)
+      into : (o : Coercion (List (List ℕ × Json))) → CoercesVariables schema given (take i all) (d ∷ drop (suc i) all) o → CoercesVariables schema given [] all (ahead made o)
       into = rw (drop-cons all i d within ∙ ap (λ (e : VarDef). e ∷ drop (suc i) all) (sym is)) at run.goes
 
       grown : take (i + 1) all ≡ take i all ++ (d ∷ [])
@@ -58,14 +58,14 @@ module _ (schema : List TypeDef) (given : List (List ℕ × Json)) (all : List V
           let run : VarsRun schema given all (take i all ++ (d ∷ [])) (drop (suc i) all) made = record { goes = λ o h. into o (passed_over defined h) } in
           rw (grown, add-one) run
 
-      pub vars_stop : (e : VarFault) → defines (take i all) d.name ≡ false → Variable schema given d (faulty e) → Variables schema given [] all (faulty e)
+      pub vars_stop : (e : VarFault) → defines (take i all) d.name ≡ false → CoercesVariable schema given d (faulty e) → CoercesVariables schema given [] all (faulty e)
       vars_stop e new v = into (faulty e) (stops new v)
 
-    pub vars_end : length all ≤ i → Variables schema given [] all (known made)
+    pub vars_end : length all ≤ i → CoercesVariables schema given [] all (known made)
     vars_end past =
-        let before : (o : Found (List (List ℕ × Json))) → Variables schema given (take i all) [] o → Variables schema given [] all (ahead made o) = rw (drop_all i all past) at run.goes in
+        let before : (o : Coercion (List (List ℕ × Json))) → CoercesVariables schema given (take i all) [] o → CoercesVariables schema given [] all (ahead made o) = rw (drop_all i all past) at run.goes in
         rw (append-nil made) at (before (known []) no_more)
 
-pub at_place : {P Q : List Spot → Type 0} (r : Refusal) → IsAt r P → Refuses r Q → (q : List Spot) × P q × Q q
+pub at_place : {P Q : List Spot → Type 0} (r : Refusal) → IsPlacedAt r P → RefusesAt r Q → (q : List Spot) × P q × Q q
 at_place refusals.Memory h k = absurd h
 at_place (refusals.At q) h k = (q, h, k)

@@ -1,4 +1,4 @@
--- Variables come to one object or one fault.
+-- CoercesVariables come to one object or one fault.
 use Rattle.std.proofs.Common.{◌≡◌, ℕ, List, [], Option, Some, refl, sym, ap, ◌∙◌}
 use Rattle.json_value.specs.declared.tree.Json.{Json}
 use Rattle.json_paths.specs.declared.path.Spot.{Spot}
@@ -9,21 +9,21 @@ use Rattle.gql_inputs.specs.declared.fault.VarFault.{VarFault}
 use Rattle.gql_inputs.specs.declared.fault.VarFault.TheVariants as faults
 use Rattle.gql_inputs.specs.Constants.{constant}
 use Rattle.gql_inputs.specs.Coercing.{is_null, fine, refused}
-use Rattle.gql_inputs.specs.Variables.{Found, known, faulty, after_known, Variable, is_value, is_wrong, is_null_given, is_default, is_left_out, is_missing, Variables, no_more, passed_over, stops, another}
+use Rattle.gql_inputs.specs.Variables.{Coercion, known, faulty, after_known, CoercesVariable, is_value, is_wrong, is_null_given, is_default, is_left_out, is_missing, CoercesVariables, no_more, passed_over, stops, another}
 use Rattle.gql_inputs.proofs.Rules.{null_refused}
 use Rattle.gql_inputs.proofs.Determined.{some_same, two_ways, both_values, at_value, Coerces-one, fine_same, refused_same, not_both}
 
 known_same : {X : Type 0} {x y : X} → known x ≡ known y → x ≡ y
 known_same e = cc
 
-faulty_same : {X : Type 0} {e f : VarFault} → ◌≡◌ {A = Found X} (faulty e) (faulty f) → e ≡ f
+faulty_same : {X : Type 0} {e f : VarFault} → ◌≡◌ {A = Coercion X} (faulty e) (faulty f) → e ≡ f
 faulty_same e = cc
 
-not_known : {X : Type 0} {x : X} {e : VarFault} → ◌≡◌ {A = Found X} (known x) (faulty e) → ⊥
+not_known : {X : Type 0} {x : X} {e : VarFault} → ◌≡◌ {A = Coercion X} (known x) (faulty e) → ⊥
 not_known e = cc
 
 module _ (schema : List TypeDef) (given : List (List ℕ × Json)) where
-  Variable-one : {d : VarDef} {o o' : Found (Option Json)} → Variable schema given d o → Variable schema given d o' → o ≡ o'
+  Variable-one : {d : VarDef} {o o' : Coercion (Option Json)} → CoercesVariable schema given d o → CoercesVariable schema given d o' → o ≡ o'
   Variable-one (is_value {d = d} {v = v} is c) (is_value {v = v'} {w = w'} is' c') =
       ap (λ (w : Json). known (Some w)) (fine_same (Coerces-one schema c (at_value schema d.of [] (fine w') v v' (some_same (sym is ∙ is')) c')))
   Variable-one (is_value {d = d} {v = v} is c) (is_wrong {v = v'} {q = q'} is' n' c') = absurd (not_both (Coerces-one schema c (at_value schema d.of [] (refused q') v v' (some_same (sym is ∙ is')) c')))
@@ -65,7 +65,7 @@ module _ (schema : List TypeDef) (given : List (List ℕ × Json)) where
   Variable-one (is_missing is d r) (is_left_out is' d' r') = absurd (both_values r r')
   Variable-one (is_missing is d r) (is_missing is' d' r') = refl
 
-  pub Variables-one : {before ds : List VarDef} {o o' : Found (List (List ℕ × Json))} → Variables schema given before ds o → Variables schema given before ds o' → o ≡ o'
+  pub Variables-one : {before ds : List VarDef} {o o' : Coercion (List (List ℕ × Json))} → CoercesVariables schema given before ds o → CoercesVariables schema given before ds o' → o ≡ o'
   Variables-one no_more no_more = refl
   Variables-one (passed_over e r) (passed_over e' r') = Variables-one r r'
   Variables-one (passed_over e r) (stops e' v') = absurd (both_values e e')
@@ -78,5 +78,5 @@ module _ (schema : List TypeDef) (given : List (List ℕ × Json)) where
   Variables-one (another {d = d} {o = o} e v r) (another {w = w'} e' v' r') =
       ap (λ (w : Option Json). after_known d.name w o) (known_same (Variable-one v v')) ∙ ap (after_known d.name w') (Variables-one r r')
 
-pub coercion_one : (schema : List TypeDef) (given : List (List ℕ × Json)) (ds : List VarDef) (a b : Found (List (List ℕ × Json))) → Variables schema given [] ds a → Variables schema given [] ds b → a ≡ b
+pub coercion_one : (schema : List TypeDef) (given : List (List ℕ × Json)) (ds : List VarDef) (a b : Coercion (List (List ℕ × Json))) → CoercesVariables schema given [] ds a → CoercesVariables schema given [] ds b → a ≡ b
 coercion_one schema given ds a b x y = Variables-one schema given x y

@@ -12,9 +12,9 @@ use Rattle.gql_leaves.specs.Bares.{named as named_type, list_of, bare, is_requir
 use Rattle.gql_leaves.specs.Leaves.{fits}
 use Rattle.gql_inputs.specs.declared.fault.Refusal.{Refusal}
 use Rattle.gql_inputs.specs.declared.fault.Refusal.TheVariants as refusals
-use Rattle.gql_inputs.specs.Coercing.{null, wrong, alone, input, rule, rule_of, value_rule, list_rule, named_rule, input_rule, null_rule, is_null, is_null_at, Outcome, fine, refused, as_list, Coerces, by_rule, Follows, null_stays, is_wrong, leaf_stays, by_element, is_alone, as_one, by_field, InputIs, Items, Refuses}
+use Rattle.gql_inputs.specs.Coercing.{null, wrong, alone, input, rule, rule_of, value_rule, list_rule, named_rule, input_rule, null_rule, is_null, is_null_at, Coerced, fine, refused, as_list, Coerces, by_rule, FollowsRule, null_stays, is_wrong, leaf_stays, by_element, is_alone, as_one, by_field, InputIs, Items, RefusesAt}
 
-pub Refuses-map : {P Q : List Spot → Type 0} (e : Refusal) → Refuses e P → ((q : List Spot) → P q → Q q) → Refuses e Q
+pub Refuses-map : {P Q : List Spot → Type 0} (e : Refusal) → RefusesAt e P → ((q : List Spot) → P q → Q q) → RefusesAt e Q
 Refuses-map refusals.Memory h f = tt
 Refuses-map (refusals.At q) h f = f q h
 
@@ -49,38 +49,38 @@ module _ (schema : List TypeDef) (of : TypeRef) (v : Json) (p : List Spot) where
   pub null_fine : is_null v ≡ true → is_required of ≡ false → Coerces schema of v p (fine j.Null)
   null_fine is required =
       let r : rule schema of v ≡ null = at_null is ∙ ap null_rule required in
-      let f : Follows schema (rule schema of v) v p (fine j.Null) = rw r null_stays in
+      let f : FollowsRule schema (rule schema of v) v p (fine j.Null) = rw r null_stays in
       by_rule f
 
   pub null_refused : is_null v ≡ true → is_required of ≡ true → Coerces schema of v p (refused p)
   null_refused is required =
       let r : rule schema of v ≡ wrong = at_null is ∙ ap null_rule required in
-      let f : Follows schema (rule schema of v) v p (refused p) = rw r is_wrong in
+      let f : FollowsRule schema (rule schema of v) v p (refused p) = rw r is_wrong in
       by_rule f
 
-  pub by_value : (o : Outcome Json) → is_null v ≡ false → Follows schema (value_rule schema (bare of) v (out-Json v)) v p o → Coerces schema of v p o
+  pub by_value : (o : Coerced Json) → is_null v ≡ false → FollowsRule schema (value_rule schema (bare of) v (out-Json v)) v p o → Coerces schema of v p o
   by_value o is follows =
-      let f : Follows schema (rule schema of v) v p o = rw (some_layer schema of v (out-Json v) is) follows in
+      let f : FollowsRule schema (rule schema of v) v p o = rw (some_layer schema of v (out-Json v) is) follows in
       by_rule f
 
-  pub by_list : (o : Outcome Json) (t : TypeRef) → is_null v ≡ false → bare of ≡ list_of t → Follows schema (list_rule t (out-Json v)) v p o → Coerces schema of v p o
+  pub by_list : (o : Coerced Json) (t : TypeRef) → is_null v ≡ false → bare of ≡ list_of t → FollowsRule schema (list_rule t (out-Json v)) v p o → Coerces schema of v p o
   by_list o t is b follows =
-      let f : Follows schema (value_rule schema (bare of) v (out-Json v)) v p o = rw b follows in
+      let f : FollowsRule schema (value_rule schema (bare of) v (out-Json v)) v p o = rw b follows in
       by_value o is f
 
-  pub by_name : (o : Outcome Json) (name : List ℕ) → is_null v ≡ false → bare of ≡ named_type name → Follows schema (named_rule schema name v (out-Json v) (inputs schema name)) v p o → Coerces schema of v p o
+  pub by_name : (o : Coerced Json) (name : List ℕ) → is_null v ≡ false → bare of ≡ named_type name → FollowsRule schema (named_rule schema name v (out-Json v) (inputs schema name)) v p o → Coerces schema of v p o
   by_name o name is b follows =
-      let f : Follows schema (value_rule schema (bare of) v (out-Json v)) v p o = rw b follows in
+      let f : FollowsRule schema (value_rule schema (bare of) v (out-Json v)) v p o = rw b follows in
       by_value o is f
 
-  pub by_inner : (o : Outcome Json) (t : TypeRef) → is_null v ≡ false → bare of ≡ bare t → Coerces schema t v p o → Coerces schema of v p o
+  pub by_inner : (o : Coerced Json) (t : TypeRef) → is_null v ≡ false → bare of ≡ bare t → Coerces schema t v p o → Coerces schema of v p o
   by_inner o t is b (by_rule f) =
-      let g : Follows schema (value_rule schema (bare t) v (out-Json v)) v p o = rw (some_layer schema t v (out-Json v) is) at f in
-      let h : Follows schema (value_rule schema (bare of) v (out-Json v)) v p o = rw b g in
+      let g : FollowsRule schema (value_rule schema (bare t) v (out-Json v)) v p o = rw (some_layer schema t v (out-Json v) is) at f in
+      let h : FollowsRule schema (value_rule schema (bare of) v (out-Json v)) v p o = rw b g in
       by_value o is h
 
 module _ (schema : List TypeDef) (v : Json) (p : List Spot) where
-  pub list_items : (t : TypeRef) (items : List Json) (o : Outcome (List Json)) → v ≡ j.List items → Items schema t p 0 items o → Follows schema (list_rule t (out-Json v)) v p (as_list o)
+  pub list_items : (t : TypeRef) (items : List Json) (o : Coerced (List Json)) → v ≡ j.List items → Items schema t p 0 items o → FollowsRule schema (list_rule t (out-Json v)) v p (as_list o)
   list_items t items o is run = rw (is, j.outs-List items) (by_element run)
 
 -- ---- lists, input types and leaves
@@ -105,21 +105,21 @@ rolled : (v : Json) (l : Json-F Json) → out-Json v ≡ l → v ≡ roll-Json l
 rolled v l is = sym (roll-out-Json v) ∙ ap roll-Json is
 
 module _ (schema : List TypeDef) (v : Json) (p : List Spot) where
-  pub list_alone : (t : TypeRef) (o : Outcome Json) → ((items : List Json) → v ≡ j.List items → ⊥) → Coerces schema t v p o → Follows schema (list_rule t (out-Json v)) v p (as_one o)
+  pub list_alone : (t : TypeRef) (o : Coerced Json) → ((items : List Json) → v ≡ j.List items → ⊥) → Coerces schema t v p o → FollowsRule schema (list_rule t (out-Json v)) v p (as_one o)
   list_alone t o other c = rw (alone_layer t (out-Json v) (λ items is. other items (rolled v (Json-F.List items) is ∙ j.rolls-List items))) (is_alone c)
 
-  pub input_members : (name : List ℕ) (fields : List InputField) (ms : List (List ℕ × Json)) (o : Outcome Json) → inputs schema name ≡ Some fields → v ≡ j.Object ms → InputIs schema ms p fields o →
-      Follows schema (named_rule schema name v (out-Json v) (inputs schema name)) v p o
-  input_members name fields ms o found is run = rw (found, is, j.outs-Object ms) (subst (λ (r : Outcome Json). Follows schema (input fields ms) (j.Object ms) p r) run.2 (by_field run.1))
+  pub input_members : (name : List ℕ) (fields : List InputField) (ms : List (List ℕ × Json)) (o : Coerced Json) → inputs schema name ≡ Some fields → v ≡ j.Object ms → InputIs schema ms p fields o →
+      FollowsRule schema (named_rule schema name v (out-Json v) (inputs schema name)) v p o
+  input_members name fields ms o found is run = rw (found, is, j.outs-Object ms) (subst (λ (r : Coerced Json). FollowsRule schema (input fields ms) (j.Object ms) p r) run.2 (by_field run.1))
 
   pub input_wrong : (name : List ℕ) (fields : List InputField) → inputs schema name ≡ Some fields → ((ms : List (List ℕ × Json)) → v ≡ j.Object ms → ⊥) →
-      Follows schema (named_rule schema name v (out-Json v) (inputs schema name)) v p (refused p)
+      FollowsRule schema (named_rule schema name v (out-Json v) (inputs schema name)) v p (refused p)
   input_wrong name fields found other = rw (found, input_layer fields (out-Json v) (λ ms is. other ms (rolled v (Json-F.Object ms) is ∙ j.rolls-Object ms))) is_wrong
 
-  pub leaf_fits : (name : List ℕ) → inputs schema name ≡ None → fits schema name v ≡ true → Follows schema (named_rule schema name v (out-Json v) (inputs schema name)) v p (fine v)
+  pub leaf_fits : (name : List ℕ) → inputs schema name ≡ None → fits schema name v ≡ true → FollowsRule schema (named_rule schema name v (out-Json v) (inputs schema name)) v p (fine v)
   leaf_fits name found is = rw (found, is) leaf_stays
 
-  pub leaf_wrong : (name : List ℕ) → inputs schema name ≡ None → fits schema name v ≡ false → Follows schema (named_rule schema name v (out-Json v) (inputs schema name)) v p (refused p)
+  pub leaf_wrong : (name : List ℕ) → inputs schema name ≡ None → fits schema name v ≡ false → FollowsRule schema (named_rule schema name v (out-Json v) (inputs schema name)) v p (refused p)
   leaf_wrong name found is = rw (found, is) is_wrong
 
 -- ---- refusals that are handed on

@@ -7,7 +7,7 @@ use Rattle.std.proofs.lemmas.List.{append-nil, get_or-drop, length-drop}
 use Rattle.std.proofs.lemmas.Str.{encode_ascii, IsCharBoundary-after_ascii}
 use Rattle.std.proofs.lemmas.Bool.Decides.{nat_tests}
 use Rattle.json_value.specs.Strings.{short, hex_digit, is_high, is_low, join}
-use Rattle.gql_inputs.specs.Strings.{number_of, unit, letter, alone, escape_by, escape, unescaped_past, unescaped, Continues}
+use Rattle.gql_inputs.specs.Strings.{number_of, unit, letter, alone, escape_by, escape_read, unescaped_past, unescaped, GoesOn}
 
 skipped : (n : ℕ) (s : List ℕ) → unescaped_past n s ≡ unescaped_past 0 (drop n s)
 unfolding unescaped_past
@@ -15,11 +15,11 @@ skipped zero s = refl
 skipped (suc n) [] = refl
 skipped (suc n) (b ∷ w) = skipped n w
 
-past_itself : (b : ℕ) (w : List ℕ) → escape (b ∷ w) ≡ None → unescaped (b ∷ w) ≡ b ∷ unescaped w
+past_itself : (b : ℕ) (w : List ℕ) → escape_read (b ∷ w) ≡ None → unescaped (b ∷ w) ≡ b ∷ unescaped w
 unfolding unescaped_past
 past_itself b w is = rw is refl
 
-pub past_escape : (s : List ℕ) (c n : ℕ) → escape s ≡ Some (c, n) → 0 < n → n ≤ length s → unescaped s ≡ encode_utf8 c ++ unescaped (drop n s)
+pub past_escape : (s : List ℕ) (c n : ℕ) → escape_read s ≡ Some (c, n) → 0 < n → n ≤ length s → unescaped s ≡ encode_utf8 c ++ unescaped (drop n s)
 unfolding unescaped_past
 past_escape [] c n is some within = absurd (omega arith)
 past_escape (b ∷ w) c zero is some within = absurd (omega arith)
@@ -27,7 +27,7 @@ past_escape (b ∷ w) c (suc n) is some within =
     let less : suc n - 1 ≡ n = omega arith in
     rw is (rw less (ap (λ (t : List ℕ). encode_utf8 c ++ t) (skipped n w)))
 
-pub past_backslash : (s : List ℕ) → escape s ≡ None → 0 < length s → get_or s 0 0 ≡ 92 → unescaped s ≡ (92 ∷ []) ++ unescaped (drop 1 s)
+pub past_backslash : (s : List ℕ) → escape_read s ≡ None → 0 < length s → get_or s 0 0 ≡ 92 → unescaped s ≡ (92 ∷ []) ++ unescaped (drop 1 s)
 past_backslash [] is some first = absurd (omega arith)
 past_backslash (b ∷ w) is some first = past_itself b w is ∙ ap (λ (x : ℕ). x ∷ unescaped w) first
 
@@ -47,7 +47,7 @@ not_equal : (b : ℕ) (t : Bool) → (b == 92) ≡ t → (b ≡ 92 → ⊥) → 
 not_equal b true is differs = absurd (differs (eqb-true b 92 is))
 not_equal b false is differs = is
 
-no_escape : (b : ℕ) (w : List ℕ) → (b ≡ 92 → ⊥) → escape (b ∷ w) ≡ None
+no_escape : (b : ℕ) (w : List ℕ) → (b ≡ 92 → ⊥) → escape_read (b ∷ w) ≡ None
 no_escape b w differs =
     let other : (b == 92) ≡ false = not_equal b (b == 92) refl differs in
     rw (unit_else b w other, letter_else b w other) refl
@@ -124,12 +124,12 @@ cut_by s (Some u) (Some v) c first next by e is =
 cut_by s None b (Some x) first next by e is = subst (λ (y : ℕ × ℕ). Cut s y.1) (some_same _ e is) (letter_cut s x by)
 cut_by s None b None first next by e is = absurd cc
 
-pub escape_cut : (s : List ℕ) (e : ℕ × ℕ) → escape s ≡ Some e → Cut s e.1
+pub escape_cut : (s : List ℕ) (e : ℕ × ℕ) → escape_read s ≡ Some e → Cut s e.1
 escape_cut s e is = cut_by s (unit s) (unit (drop 6 s)) (letter s) refl refl refl e is
 
 -- ---- one front after the other
 
-pub cut_escape : (s : List ℕ) (e : ℕ × ℕ) → IsUtf8 s → escape s ≡ Some e → IsCharBoundary s e.1
+pub cut_escape : (s : List ℕ) (e : ℕ × ℕ) → IsUtf8 s → escape_read s ≡ Some e → IsCharBoundary s e.1
 cut_escape s e utf8 is =
     let cut : Cut s e.1 = escape_cut s e is in
     let last : e.1 - 1 < length s = omega arith in
@@ -139,19 +139,19 @@ cut_escape s e utf8 is =
 pub cut_backslash : (s : List ℕ) → IsUtf8 s → 0 < length s → get_or s 0 0 ≡ 92 → IsCharBoundary s 1
 cut_backslash s utf8 some first = IsCharBoundary-after_ascii s 0 utf8 some (omega arith)
 
-goes_on : (text front source more : List ℕ) (n : ℕ) → unescaped source ≡ front ++ unescaped (drop n source) → more ≡ text ++ front → Continues text source n more
+goes_on : (text front source more : List ℕ) (n : ℕ) → unescaped source ≡ front ++ unescaped (drop n source) → more ≡ text ++ front → GoesOn text source n more
 goes_on text front source more n splits is =
     ap (λ (t : List ℕ). t ++ unescaped (drop n source)) is ∙ append_assoc text front (unescaped (drop n source)) ∙ ap (λ (t : List ℕ). text ++ t) (sym splits)
 
-pub goes_plain : (text source more : List ℕ) (n : ℕ) → n ≤ length source → ((k : ℕ) → k < n → get_or source k 0 ≡ 92 → ⊥) → more ≡ text ++ take n source → Continues text source n more
+pub goes_plain : (text source more : List ℕ) (n : ℕ) → n ≤ length source → ((k : ℕ) → k < n → get_or source k 0 ≡ 92 → ⊥) → more ≡ text ++ take n source → GoesOn text source n more
 goes_plain text source more n within plain is = goes_on text (take n source) source more n (past_plain n source within plain) is
 
-pub goes_escape : (text source more : List ℕ) (e : ℕ × ℕ) → escape source ≡ Some e → more ≡ text ++ encode_utf8 e.0 → Continues text source e.1 more
+pub goes_escape : (text source more : List ℕ) (e : ℕ × ℕ) → escape_read source ≡ Some e → more ≡ text ++ encode_utf8 e.0 → GoesOn text source e.1 more
 goes_escape text source more e found is =
     let cut : Cut source e.1 = escape_cut source e found in
     goes_on text (encode_utf8 e.0) source more e.1 (past_escape source e.0 e.1 found cut.some cut.within) is
 
-pub goes_backslash : (text source more : List ℕ) → escape source ≡ None → 0 < length source → get_or source 0 0 ≡ 92 → more ≡ text ++ encode_utf8 92 → Continues text source 1 more
+pub goes_backslash : (text source more : List ℕ) → escape_read source ≡ None → 0 < length source → get_or source 0 0 ≡ 92 → more ≡ text ++ encode_utf8 92 → GoesOn text source 1 more
 goes_backslash text source more none some first is =
     goes_on text (92 ∷ []) source more 1 (past_backslash source none some first) (is ∙ ap (λ (t : List ℕ). text ++ t) (encode_ascii 92 (omega arith)))
 

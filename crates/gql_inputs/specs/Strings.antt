@@ -21,20 +21,20 @@ abbrev pub alone : ℕ → ℕ
 alone u = if is_high u || is_low u then 0xFFFD else u
 
 -- a code unit with the next one, where that is escaped too
-abbrev pub joined : ℕ → Option ℕ → ℕ × ℕ
-joined u None = (alone u, 6)
-joined u (Some v) = if is_high u && is_low v then (join u v, 12) else (alone u, 6)
+abbrev pub with_next_unit : ℕ → Option ℕ → ℕ × ℕ
+with_next_unit u None = (alone u, 6)
+with_next_unit u (Some v) = if is_high u && is_low v then (join u v, 12) else (alone u, 6)
 
 abbrev pub escape_by : Option ℕ → Option ℕ → Option ℕ → Option (ℕ × ℕ)
-escape_by (Some u) next c = Some (joined u next)
+escape_by (Some u) next c = Some (with_next_unit u next)
 escape_by None next (Some c) = Some (c, 2)
 escape_by None next None = None
 
--- the escape with which the source begins: its character, and its length
-abbrev pub escape : List ℕ → Option (ℕ × ℕ)
-escape source = escape_by (unit source) (unit (drop 6 source)) (letter source)
+-- the escape_read with which the source begins: its character, and its length
+abbrev pub escape_read : List ℕ → Option (ℕ × ℕ)
+escape_read source = escape_by (unit source) (unit (drop 6 source)) (letter source)
 
--- what the source begins with: a character's bytes, or one byte that begins no escape
+-- what the source begins with: a character's bytes, or one byte that begins no escape_read
 abbrev pub front : ℕ → Option (ℕ × ℕ) → List ℕ
 front b None = b ∷ []
 front b (Some e) = encode_utf8 e.0
@@ -43,10 +43,10 @@ abbrev pub behind : Option (ℕ × ℕ) → ℕ
 behind None = 0
 behind (Some e) = e.1 - 1
 
--- the text without so many bytes of the source, which belong to the escape before
+-- the text without so many bytes of the source, which belong to the escape_read before
 unfoldable pub unescaped_past : ℕ → List ℕ → List ℕ
 unescaped_past n [] = []
-unescaped_past zero (b ∷ w) = front b (escape (b ∷ w)) ++ unescaped_past (behind (escape (b ∷ w))) w
+unescaped_past zero (b ∷ w) = front b (escape_read (b ∷ w)) ++ unescaped_past (behind (escape_read (b ∷ w))) w
 unescaped_past (suc n) (b ∷ w) = unescaped_past n w
 
 -- the text of a source
@@ -54,5 +54,5 @@ abbrev pub unescaped : List ℕ → List ℕ
 unescaped source = unescaped_past 0 source
 
 -- After so many bytes of the source the text goes on as it would have.
-abbrev pub Continues : List ℕ → List ℕ → ℕ → List ℕ → Type 0
-Continues text source n more = more ++ unescaped (drop n source) ≡ text ++ unescaped source
+abbrev pub GoesOn : List ℕ → List ℕ → ℕ → List ℕ → Type 0
+GoesOn text source n more = more ++ unescaped (drop n source) ≡ text ++ unescaped source

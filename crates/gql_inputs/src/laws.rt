@@ -1,4 +1,4 @@
-ghost use Rattle.gql_inputs.specs.Variables.{IsOne};
+ghost use Rattle.gql_inputs.specs.Variables.{HasOneAnswer};
 
 use gql_terms::Operation;
 use gql_types::Schema;
@@ -6,5 +6,5 @@ use json_value::Json;
 
 /// A law, with nothing to run: variables come to one object or one fault.
 pub fn coercion_is_one(schema: &Schema, operation: &Operation, given: &Json)
-    ensures { IsOne schema.now operation.now.variables given.now }
+    ensures { HasOneAnswer schema.now operation.now.variables given.now }
 {}

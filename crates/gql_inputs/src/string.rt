@@ -4,7 +4,7 @@ ghost use Rattle.std.specs.Prelude.{◌≡◌, ◌≢◌, ◌<◌, ◌≤◌, tr
 ghost use Rattle.std.specs.Str.{IsCharBoundary};
 ghost use Rattle.json_value.specs.Strings as chars;
 ghost use Rattle.gql_inputs.specs.Strings as spec;
-ghost use Rattle.gql_inputs.specs.Strings.{Continues};
+ghost use Rattle.gql_inputs.specs.Strings.{GoesOn};
 
 use flow_base::{Memory, Text};
 use std::alloc::Global;
@@ -109,7 +109,7 @@ fn join(high: u32, low: u32) -> char
 
 fn joined(unit: u32, next: Option<u32>) -> (char, usize)
     requires { unit < 65536 }
-    ensures { result ≡ spec.joined unit next }
+    ensures { result ≡ spec.with_next_unit unit next }
 {
     match next {
         Some(low) if is_high(unit) && is_low(low) => (join(unit, low), 12),
@@ -119,7 +119,7 @@ fn joined(unit: u32, next: Option<u32>) -> (char, usize)
 
 /// The escape with which the source begins: its character, and its length.
 fn escape(source: &[u8]) -> Option<(char, usize)>
-    ensures { result ≡ spec.escape source.now }
+    ensures { result ≡ spec.escape_read source.now }
 {
     match unit(source) {
         Some(first) => Some(joined(first, unit(&source[6..]))),
@@ -150,7 +150,7 @@ fn put_front(text: &mut String, source: &str) -> Result<usize, Memory>
     ensures some { IfOk result (λ n. 0 < n) }
     ensures cut { IfOk result (λ n. IsCharBoundary source.now n) }
     ensures goes_on { IfOk result (λ n.
-        Continues (string_bytes text.old) source.now n (string_bytes text.new)) }
+        GoesOn (string_bytes text.old) source.now n (string_bytes text.new)) }
 {
     let bytes = source.as_bytes();
     let n = plain_length(bytes);

@@ -5,7 +5,7 @@ ghost use Rattle.json_paths.specs.declared.path.Spot.TheVariants as spot;
 ghost use Rattle.gql_types.specs.Schemas as schemas;
 ghost use Rattle.gql_types.specs.declared.definition.InputField.{InputField};
 ghost use Rattle.gql_inputs.specs.Coercing as spec;
-ghost use Rattle.gql_inputs.specs.Coercing.{Coerces, Field, Fields, InputIs, ListIs, NamedIs, Makes, Stops, Refuses, fine};
+ghost use Rattle.gql_inputs.specs.Coercing.{Coerces, CoercesField, CoercesFields, InputIs, ListIs, NamedIs, Makes, StopsThere, RefusesAt, fine};
 ghost use Rattle.gql_inputs.specs.Noted.{Places};
 
 use crate::constant::constant;
@@ -37,7 +37,7 @@ fn unknown_name<'a>(schema: &Schema, input: &Text, members: &'a [(Text, Json)]) 
 
 /// A refusal at this place, or for want of memory.
 fn refusal(alloc: Global, spots: &[Spot]) -> Refusal
-    ensures { Refuses result (λ q. q ≡ spots.now) }
+    ensures { RefusesAt result (λ q. q ≡ spots.now) }
 {
     match copy_spots(alloc, spots) {
         Ok(spots) => Refusal::At(spots),
@@ -47,7 +47,7 @@ fn refusal(alloc: Global, spots: &[Spot]) -> Refusal
 
 fn list_of_one(alloc: Global, value: Json) -> Result<Json, Refusal>
     ensures fine { IfOk result (λ w. fine w ≡ spec.as_one (fine value)) }
-    ensures memory { IfErr result (λ e. Refuses e (λ _. ⊥)) }
+    ensures memory { IfErr result (λ e. RefusesAt e (λ _. ⊥)) }
 {
     let mut items = Items::new(alloc);
     items.push(value)?;
@@ -70,7 +70,7 @@ pub fn coerce_value(
     spots: &mut Vec<Spot>,
 ) -> Result<Json, Refusal>
     ensures fine { Makes result (Coerces schema.now of.now value.now spots.old.items) }
-    ensures refused { Stops result (Coerces schema.now of.now value.now spots.old.items) }
+    ensures refused { StopsThere result (Coerces schema.now of.now value.now spots.old.items) }
     ensures back { OnOk result (spots.new.items ≡ spots.old.items) }
 {
     if is_null(value) {
@@ -93,7 +93,7 @@ fn coerce_some(
 ) -> Result<Json, Refusal>
     requires { spec.is_null value.now ≡ false }
     ensures fine { Makes result (Coerces schema.now of.now value.now spots.old.items) }
-    ensures refused { Stops result (Coerces schema.now of.now value.now spots.old.items) }
+    ensures refused { StopsThere result (Coerces schema.now of.now value.now spots.old.items) }
     ensures back { OnOk result (spots.new.items ≡ spots.old.items) }
 {
     match of {
@@ -114,7 +114,7 @@ fn coerce_list(
 ) -> Result<Json, Refusal>
     requires { spec.is_null value.now ≡ false }
     ensures fine { Makes result (ListIs schema.now inner.now value.now spots.old.items) }
-    ensures refused { Stops result (ListIs schema.now inner.now value.now spots.old.items) }
+    ensures refused { StopsThere result (ListIs schema.now inner.now value.now spots.old.items) }
     ensures back { OnOk result (spots.new.items ≡ spots.old.items) }
 {
     match value {
@@ -138,7 +138,7 @@ fn coerce_items(
     spots: &mut Vec<Spot>,
 ) -> Result<Items<Json>, Refusal>
     ensures fine { Makes result (spec.Items schema.now inner.now spots.old.items 0 items.now) }
-    ensures refused { Stops result (spec.Items schema.now inner.now spots.old.items 0 items.now) }
+    ensures refused { StopsThere result (spec.Items schema.now inner.now spots.old.items 0 items.now) }
     ensures back { OnOk result (spots.new.items ≡ spots.old.items) }
 {
     let mut made = Items::new(alloc);
@@ -168,7 +168,7 @@ fn coerce_part(
 ) -> Result<Json, Refusal>
     ensures fine { Makes result (Coerces schema.now of.now value.now
         (spots.old.items ++ (spot ∷ []))) }
-    ensures refused { Stops result (Coerces schema.now of.now value.now
+    ensures refused { StopsThere result (Coerces schema.now of.now value.now
         (spots.old.items ++ (spot ∷ []))) }
     ensures back { OnOk result (spots.new.items ≡ spots.old.items) }
 {
@@ -189,7 +189,7 @@ fn coerce_named(
 ) -> Result<Json, Refusal>
     requires { spec.is_null value.now ≡ false }
     ensures fine { Makes result (NamedIs schema.now name.now value.now spots.old.items) }
-    ensures refused { Stops result (NamedIs schema.now name.now value.now spots.old.items) }
+    ensures refused { StopsThere result (NamedIs schema.now name.now value.now spots.old.items) }
     ensures back { OnOk result (spots.new.items ≡ spots.old.items) }
 {
     match schema.inputs(name) {
@@ -226,7 +226,7 @@ fn coerce_input(
 ) -> Result<Json, Refusal>
     requires { schemas.inputs schema.now name.now ≡ Some fields.now }
     ensures fine { Makes result (InputIs schema.now members.now spots.old.items fields.now) }
-    ensures refused { Stops result (InputIs schema.now members.now spots.old.items fields.now) }
+    ensures refused { StopsThere result (InputIs schema.now members.now spots.old.items fields.now) }
     ensures back { OnOk result (spots.new.items ≡ spots.old.items) }
 {
     let places = places_of(alloc, members)?;
@@ -253,8 +253,8 @@ fn coerce_fields(
 ) -> Result<Items<(Text, Json)>, Refusal>
     requires places { Places places.now members.now }
     requires fields { schemas.inputs schema.now name.now ≡ Some fields.now }
-    ensures fine { Makes result (Fields schema.now members.now spots.old.items fields.now) }
-    ensures refused { Stops result (Fields schema.now members.now spots.old.items fields.now) }
+    ensures fine { Makes result (CoercesFields schema.now members.now spots.old.items fields.now) }
+    ensures refused { StopsThere result (CoercesFields schema.now members.now spots.old.items fields.now) }
     ensures back { OnOk result (spots.new.items ≡ spots.old.items) }
 {
     let mut made: Items<(Text, Json)> = Items::new(alloc);
@@ -279,8 +279,8 @@ fn coerce_field(
     spots: &mut Vec<Spot>,
 ) -> Result<Option<Json>, Refusal>
     requires { Places places.now members.now }
-    ensures fine { Makes result (Field schema.now members.now spots.old.items field.now) }
-    ensures refused { Stops result (Field schema.now members.now spots.old.items field.now) }
+    ensures fine { Makes result (CoercesField schema.now members.now spots.old.items field.now) }
+    ensures refused { StopsThere result (CoercesField schema.now members.now spots.old.items field.now) }
     ensures back { OnOk result (spots.new.items ≡ spots.old.items) }
 {
     let at = place_of(places, members, &field.name);

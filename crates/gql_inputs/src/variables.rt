@@ -1,6 +1,6 @@
 ghost use Rattle.std.specs.Prelude.{◌≡◌, [], IfOk, IfErr};
 ghost use Rattle.gql_inputs.specs.Variables as spec;
-ghost use Rattle.gql_inputs.specs.Variables.{Variable, Variables, Next, IsCoerced, IsRefused, IsFault, IsFaultOf, Faults, WhenAbsent, WhenGiven, known, faulty};
+ghost use Rattle.gql_inputs.specs.Variables.{CoercesVariable, CoercesVariables, Next, IsCoerced, IsFirstFaultOf, IsFault, IsFaultOf, Faults, WhenAbsent, WhenGiven, known, faulty};
 
 use crate::constant::constant;
 use crate::fault::{Refusal, VarFault};
@@ -64,7 +64,7 @@ fn coerce_absent(alloc: Global, definition: &VarDef) -> Result<Option<Json>, Var
 }
 
 fn refused_value(name: &Text, refusal: Refusal) -> VarFault
-    ensures { Faults result (spec.IsAt refusal (λ q. result ≡ spec.wrong_kind name.now q)) }
+    ensures { Faults result (spec.IsPlacedAt refusal (λ q. result ≡ spec.wrong_kind name.now q)) }
 {
     match refusal {
         Refusal::At(spots) => match name.copy() {
@@ -107,7 +107,7 @@ fn coerce_variable(
     definition: &VarDef,
     given: &Given<'_>,
 ) -> Result<Option<Json>, VarFault>
-    ensures value { IfOk result (λ w. Variable schema.now given.now.members.now definition.now
+    ensures value { IfOk result (λ w. CoercesVariable schema.now given.now.members.now definition.now
         (known w)) }
     ensures fault { IfErr result
         (λ e. IsFaultOf schema.now given.now.members.now definition.now e) }
@@ -153,7 +153,7 @@ fn coerce_all(
     given: &Given<'_>,
 ) -> Result<Items<(Text, Json)>, VarFault>
     ensures value { IfOk result (λ ms.
-        Variables schema.now given.now.members.now [] definitions.now (known ms)) }
+        CoercesVariables schema.now given.now.members.now [] definitions.now (known ms)) }
     ensures fault { IfErr result (λ e. IsFault schema.now given.now.members.now definitions.now e) }
 {
     let mut seen = IndexSet::new(alloc);
@@ -180,7 +180,7 @@ pub fn coerce(
     given: &Json,
 ) -> Result<Json, VarFault>
     ensures value { IfOk result (λ v. IsCoerced schema.now operation.now.variables given.now v) }
-    ensures fault { IfErr result (λ e. IsRefused schema.now operation.now.variables given.now e) }
+    ensures fault { IfErr result (λ e. IsFirstFaultOf schema.now operation.now.variables given.now e) }
 {
     let given = Given::of(alloc, members_of(given))?;
     match coerce_all(alloc, schema, operation.variables.as_slice(), &given) {

@@ -14,7 +14,7 @@ use Rattle.gql_tokens.specs.declared.scanner.Class.TheVariants as c
 use Rattle.gql_tokens.specs.Numbers.{is_digit, is_e, IsNumber}
 use Rattle.gql_tokens.specs.Lexical.{is_blank, is_inline, is_name_start, is_name_continue, mark_of, Every, Stops, IsString, close, plain, escape, unicode, IsBlock, IsLexeme, mark, dots, name, number, empty, string, block, IsIgnored, blank, byte_order_mark, comment}
 use Rattle.gql_tokens.specs.Lexical as grammar
-use Rattle.gql_tokens.specs.Scanning.{number_start, number_next, Completes}
+use Rattle.gql_tokens.specs.Scanning.{number_start, number_next, CompletesNumber}
 use Rattle.gql_tokens.proofs.NumberTexts.{number_reads}
 use Rattle.gql_tokens.proofs.Lexemes.{NoMark, not_mark}
 use Rattle.gql_lexer.specs.Endings.{IsQuoted}
@@ -113,7 +113,7 @@ next_low d.E b = cond_both (b == 43 || b == 45) (Some d.Sign) (cond (is_digit b)
 next_low d.Sign b = digits_low d.Exponent b None tt
 next_low d.Exponent b = digits_low d.Exponent b None tt
 
-completes_low : (part : Digit) (a : List ℕ) → Completes part a → AllLow a
+completes_low : (part : Digit) (a : List ℕ) → CompletesNumber part a → AllLow a
 completes_low part [] h = tt
 completes_low part (b ∷ a) (next, is, h) = (subst (LowIf b) is (next_low part b), completes_low next a h)
 

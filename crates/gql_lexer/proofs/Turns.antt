@@ -14,7 +14,7 @@ use Rattle.gql_tokens.specs.declared.scanner.State.TheVariants as st
 use Rattle.gql_tokens.specs.declared.scanner.Scan.TheVariants as sc
 use Rattle.gql_tokens.specs.declared.lexer.Last.{Last}
 use Rattle.gql_tokens.specs.declared.lexer.Last.TheVariants as last
-use Rattle.gql_tokens.specs.Lexical.{Token, is_blank, is_inline, Every, Stops, Follows, IsLexeme, IsIgnored, blank, byte_order_mark, comment, Leads, here, skip, token, Lexes, IsReal, token_of}
+use Rattle.gql_tokens.specs.Lexical.{Token, is_blank, is_inline, Every, Stops, MayFollow, IsLexeme, IsIgnored, blank, byte_order_mark, comment, Leads, here, skip, token, Lexes, IsReal, token_of}
 use Rattle.gql_tokens.specs.Scanning.{token_at, may_end, Left}
 use Rattle.gql_tokens.specs.Ends.{growths}
 use Rattle.gql_tokens.specs.Lexing.{NoneIgnored, TokenAt, At, Placed, EndsWhole, EndsCut, Counted, IsLexed}
@@ -153,7 +153,7 @@ no_lexes text ts us b bs leads ignored none lexes =
     go more (skips a w cut is l) = ignored a w is cut
     go more (takes rest class a w e cut is follows l) = none (token_of class a) (class, a, w, cut, is, follows, refl)
 
-follows_nothing : (class : Class) → Follows class []
+follows_nothing : (class : Class) → MayFollow class []
 follows_nothing (c.Mark kind) = tt
 follows_nothing c.Name = tt
 follows_nothing c.Number = tt
@@ -250,7 +250,7 @@ module _ (text : List ℕ) (utf8 : IsUtf8 text) (ts : List Token) (ps : List ℕ
     begins = none;
   }
 
-  turn_takes : (class : Class) (a w : List ℕ) → first < 256 → NoneIgnored (drop at text) → drop at text ≡ a ++ w → IsLexeme class a → Follows class w → (w ≡ [] → (v : List ℕ) → Follows class v) → SoFar text (ts ++ (token_of class a ∷ [])) (ps ++ (at ∷ [])) (at + length a)
+  turn_takes : (class : Class) (a w : List ℕ) → first < 256 → NoneIgnored (drop at text) → drop at text ≡ a ++ w → IsLexeme class a → MayFollow class w → (w ≡ [] → (v : List ℕ) → MayFollow class v) → SoFar text (ts ++ (token_of class a ∷ [])) (ps ++ (at ∷ [])) (at + length a)
   turn_takes class a w byte none cut is follows whole = record {
     within = within_part a w cut;
     bound = bounded a cut is;

@@ -107,7 +107,7 @@ fn add_word(kinds: &mut Vec<Kind>, text: &str, word: &str, kind: Kind) -> Result
 
 fn add_words(kinds: &mut Vec<Kind>, text: &str) -> Result<(), Memory>
     ensures { IfOk result (λ _. kinds.new.items ≡ kinds.old.items
-        ++ ends.words_from text.now grammar.words) }
+        ++ ends.words_from text.now grammar.grammar_words) }
 {
     add_word(kinds, text, "query", Kind::Query)?;
     add_word(kinds, text, "mutation", Kind::Mutation)?;

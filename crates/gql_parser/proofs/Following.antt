@@ -13,18 +13,18 @@ use Rattle.gql_terms.specs.declared.faults.GqlFault.TheVariants as faults
 use Rattle.gql_terms.specs.Grammar.{strict}
 use Rattle.gql_parser.specs.Reading.{all}
 use Rattle.gql_parser.specs.Faults.{Explains, placed, MayBegin}
-use Rattle.gql_parser.specs.Judging.{Tells, RefusedLast}
+use Rattle.gql_parser.specs.Judging.{TellsWhether, RefusedLast}
 use Rattle.gql_parser.proofs.Explained.{whole_grows, whole_refused, cut_grows, cut_refused}
 
 nil_of : {T : Type 0} (xs : List T) → length xs ≡ 0 → xs ≡ []
 nil_of [] e = refl
 nil_of (x ∷ xs) e = absurd (omega arith)
 
-pub consumed_ok : (o : Answer Kind Refusal Document) (d : Document) (rest : List (Lexeme Kind)) (b : Bool) → o ≡ Ok (d, rest) → (b ≡ true → length rest ≡ 0) → (b ≡ false → length rest ≡ 0 → ⊥) → Tells b (Consumed o)
+pub consumed_ok : (o : Answer Kind Refusal Document) (d : Document) (rest : List (Lexeme Kind)) (b : Bool) → o ≡ Ok (d, rest) → (b ≡ true → length rest ≡ 0) → (b ≡ false → length rest ≡ 0 → ⊥) → TellsWhether b (Consumed o)
 consumed_ok o d rest true e over left = subst (λ (q : Answer Kind Refusal Document). Consumed q) (sym e) (nil_of rest (over refl))
 consumed_ok o d rest false e over left = λ c. left refl (ap length (subst (λ (q : Answer Kind Refusal Document). Consumed q) e c))
 
-pub consumed_err : (o : Answer Kind Refusal Document) (k : Refusal) (rest : List (Lexeme Kind)) (b : Bool) → o ≡ Err (k, rest) → (b ≡ true → length rest ≡ 0) → (b ≡ false → length rest ≡ 0 → ⊥) → Tells b (Consumed o)
+pub consumed_err : (o : Answer Kind Refusal Document) (k : Refusal) (rest : List (Lexeme Kind)) (b : Bool) → o ≡ Err (k, rest) → (b ≡ true → length rest ≡ 0) → (b ≡ false → length rest ≡ 0 → ⊥) → TellsWhether b (Consumed o)
 consumed_err o k rest true e over left = subst (λ (q : Answer Kind Refusal Document). Consumed q) (sym e) (nil_of rest (over refl))
 consumed_err o k rest false e over left = λ c. left refl (ap length (subst (λ (q : Answer Kind Refusal Document). Consumed q) e c))
 
@@ -60,12 +60,12 @@ module _ (p : Parser Kind Refusal Document) (ts : List (Lexeme Kind)) where
   follows_over kinds i le none c = none (subst (CanFollow p ts) (sym (take_all i kinds le)) c)
 
   pub turn_none : (kinds : List Kind) (i : ℕ) (d : Kind) (now : List (Lexeme Kind)) (b : Bool) → i < length kinds → now ≡ ts → (CanFollow p ts (take i kinds) → ⊥)
-      → Tells b (Consumed (p (now ++ (any_of (get_or kinds i d) ∷ [])))) → b ≡ false → CanFollow p ts (take (i + 1) kinds) → ⊥
+      → TellsWhether b (Consumed (p (now ++ (any_of (get_or kinds i d) ∷ [])))) → b ≡ false → CanFollow p ts (take (i + 1) kinds) → ⊥
   turn_none kinds i d now true lt same before tells e = absurd cc
   turn_none kinds i d now false lt same before tells e = follows_more kinds i d (now ++ (any_of (get_or kinds i d) ∷ [])) lt before (ap (λ (q : List (Lexeme Kind)). q ++ (any_of (get_or kinds i d) ∷ [])) same) tells
 
   pub turn_here : (kinds : List Kind) (i : ℕ) (d : Kind) (now : List (Lexeme Kind)) (b : Bool) → i < length kinds → now ≡ ts
-      → Tells b (Consumed (p (now ++ (any_of (get_or kinds i d) ∷ [])))) → b ≡ true → CanFollow p ts kinds
+      → TellsWhether b (Consumed (p (now ++ (any_of (get_or kinds i d) ∷ [])))) → b ≡ true → CanFollow p ts kinds
   turn_here kinds i d now false lt same tells e = absurd cc
   turn_here kinds i d now true lt same tells e = follows_here kinds i d (now ++ (any_of (get_or kinds i d) ∷ [])) lt (ap (λ (q : List (Lexeme Kind)). q ++ (any_of (get_or kinds i d) ∷ [])) same) tells
 
@@ -90,22 +90,22 @@ init_is : (text : List ℕ) (ts now : List (Lexeme Kind)) (kinds : List Kind) (t
 init_is text ts now kinds t w e = last_same now w.init t w.last (sym e ∙ w.parts)
 
 pub grown_explains : (text : List ℕ) (ts now : List (Lexeme Kind)) (kinds : List Kind) (place : ℕ) (why : Refusal) (t : Lexeme Kind) (b : Bool) → EndsWhole text ts kinds → RefusedLast text ts place why → ts ≡ now ++ (t ∷ [])
-    → Tells b (CanFollow (all strict) now kinds) → b ≡ true → Explains text faults.Ended
+    → TellsWhether b (CanFollow (all strict) now kinds) → b ≡ true → Explains text faults.Ended
 grown_explains text ts now kinds place why t false w r e tells is = absurd cc
 grown_explains text ts now kinds place why t true w r e tells is =
     whole_grows text ts kinds w (why, r.token ∷ []) r.refused (subst (λ (q : List (Lexeme Kind)). CanFollow (all strict) q kinds) (init_is text ts now kinds t w e) tells)
 
 pub refused_last_explains : (text : List ℕ) (ts now : List (Lexeme Kind)) (kinds : List Kind) (place : ℕ) (why : Refusal) (t : Lexeme Kind) (b : Bool) → EndsWhole text ts kinds → RefusedLast text ts place why → ts ≡ now ++ (t ∷ [])
-    → Tells b (CanFollow (all strict) now kinds) → b ≡ false → Explains text (placed why place)
+    → TellsWhether b (CanFollow (all strict) now kinds) → b ≡ false → Explains text (placed why place)
 refused_last_explains text ts now kinds place why t true w r e tells is = absurd cc
 refused_last_explains text ts now kinds place why t false w r e tells is =
     subst (λ (q : ℕ). Explains text (placed why q)) (sym r.place_is)
     (whole_refused text ts kinds w r.places why r.token r.stand r.refused (λ c. tells (subst (λ (q : List (Lexeme Kind)). CanFollow (all strict) q kinds) (sym (init_is text ts now kinds t w e)) c)) r.index (omega (arith, r.count)))
 
-pub cut_grown : (text : List ℕ) (ts : List (Lexeme Kind)) (kinds : List Kind) (place : ℕ) (b : Bool) → EndsCut text ts place kinds → Tells b (CanFollow (all strict) ts kinds) → b ≡ true → Explains text faults.Ended
+pub cut_grown : (text : List ℕ) (ts : List (Lexeme Kind)) (kinds : List Kind) (place : ℕ) (b : Bool) → EndsCut text ts place kinds → TellsWhether b (CanFollow (all strict) ts kinds) → b ≡ true → Explains text faults.Ended
 cut_grown text ts kinds place false w tells is = absurd cc
 cut_grown text ts kinds place true w tells is = cut_grows text ts place kinds w tells
 
-pub cut_stops : (text : List ℕ) (ts : List (Lexeme Kind)) (kinds : List Kind) (place : ℕ) (b : Bool) → EndsCut text ts place kinds → MayBegin strict ts → Tells b (CanFollow (all strict) ts kinds) → b ≡ false → Explains text (faults.Unexpected place)
+pub cut_stops : (text : List ℕ) (ts : List (Lexeme Kind)) (kinds : List Kind) (place : ℕ) (b : Bool) → EndsCut text ts place kinds → MayBegin strict ts → TellsWhether b (CanFollow (all strict) ts kinds) → b ≡ false → Explains text (faults.Unexpected place)
 cut_stops text ts kinds place true w may tells is = absurd cc
 cut_stops text ts kinds place false w may tells is = cut_refused text ts place kinds w may tells

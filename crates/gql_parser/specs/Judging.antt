@@ -10,9 +10,9 @@ use Rattle.gql_terms.specs.declared.faults.GqlFault.{GqlFault}
 use Rattle.gql_parser.specs.Faults.{IsText, Explains}
 
 -- whether it holds
-abbrev pub Tells : Bool → Type 0 → Type 0
-Tells true P = P
-Tells false P = P → ⊥
+abbrev pub TellsWhether : Bool → Type 0 → Type 0
+TellsWhether true P = P
+TellsWhether false P = P → ⊥
 
 -- the document that the text is, or its fault
 abbrev pub Judged : List ℕ → Result Document GqlFault → Type 0

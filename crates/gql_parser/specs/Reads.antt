@@ -35,20 +35,20 @@ Reads answer (Err (stop.Refused r)) new = answer ≡ Err (r, new)
 abbrev pub prefixed : {A : Type 0} → List A → Answer Kind Refusal (List A) → Answer Kind Refusal (List A)
 prefixed found answer = and_then answer (λ xs. pure (found ++ xs))
 
--- a document with one definition more
-abbrev pub with : Document → Definition → Document
-with d (operation x) = record { operations = d.operations ++ (x ∷ []); fragments = d.fragments }
-with d (fragment x) = record { operations = d.operations; fragments = d.fragments ++ (x ∷ []) }
+-- a document with_definition one definition more
+abbrev pub with_definition : Document → Definition → Document
+with_definition d (operation x) = record { operations = d.operations ++ (x ∷ []); fragments = d.fragments }
+with_definition d (fragment x) = record { operations = d.operations; fragments = d.fragments ++ (x ∷ []) }
 
 -- the definition that is read is added, unless memory fails
-abbrev pub Adds : Answer Kind Refusal Definition → Result (Unit {0}) Stop → Document → Document → List (Lexeme Kind) → Type 0
-Adds answer (Ok _) old new rest = (x : Definition) × (answer ≡ Ok (x, rest)) × (new ≡ with old x)
-Adds answer (Err stop.Memory) old new rest = Unit {0}
-Adds answer (Err (stop.Refused r)) old new rest = answer ≡ Err (r, rest)
+abbrev pub AddsDefinition : Answer Kind Refusal Definition → Result (Unit {0}) Stop → Document → Document → List (Lexeme Kind) → Type 0
+AddsDefinition answer (Ok _) old new rest = (x : Definition) × (answer ≡ Ok (x, rest)) × (new ≡ with_definition old x)
+AddsDefinition answer (Err stop.Memory) old new rest = Unit {0}
+AddsDefinition answer (Err (stop.Refused r)) old new rest = answer ≡ Err (r, rest)
 
 abbrev pub withs : Document → List Definition → Document
 withs d [] = d
-withs d (x ∷ xs) = withs (with d x) xs
+withs d (x ∷ xs) = withs (with_definition d x) xs
 
 abbrev pub AddsAll : Answer Kind Refusal (List Definition) → Result (Unit {0}) Stop → Document → Document → List (Lexeme Kind) → Type 0
 AddsAll answer (Ok _) old new rest = (xs : List Definition) × (answer ≡ Ok (xs, rest)) × (new ≡ withs old xs)

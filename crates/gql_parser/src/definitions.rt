@@ -102,7 +102,7 @@ fn definition(
     tokens: &mut Tokens<'_, '_>,
     document: &mut Document,
 ) -> Result<(), Stop>
-    ensures { reads.Adds (spec.definition strict tokens.old) result document.old document.new
+    ensures { reads.AddsDefinition (spec.definition strict tokens.old) result document.old document.new
         tokens.new }
 {
     if tokens.sees(Test::Is(Kind::Fragment)) {

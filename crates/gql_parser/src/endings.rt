@@ -12,7 +12,7 @@ ghost use Rattle.gql_parser.specs.Reading as spec;
 ghost use Rattle.gql_parser.specs.Faults.{IsText, Explains};
 ghost use Rattle.gql_parser.specs.Faults as texts;
 ghost use Rattle.gql_parser.specs.Judging as judging;
-ghost use Rattle.gql_parser.specs.Judging.{Tells, Judged};
+ghost use Rattle.gql_parser.specs.Judging.{TellsWhether, Judged};
 
 use crate::definitions::all;
 use crate::tokens::{Stop, Tokens};
@@ -22,7 +22,7 @@ use std::alloc::Global;
 
 /// Whether some document begins with the tokens.
 fn consumes(alloc: Global, tokens: &[Token<'_>]) -> Result<bool, GqlFault>
-    ensures tells { IfOk result (λ b. Tells b (Consumed (spec.all strict tokens.now))) }
+    ensures tells { IfOk result (λ b. TellsWhether b (Consumed (spec.all strict tokens.now))) }
     ensures memory { IfErr result (λ e. e ≡ faults.Memory) }
 {
     let mut left = Tokens::new(tokens);
@@ -36,7 +36,7 @@ fn consumes(alloc: Global, tokens: &[Token<'_>]) -> Result<bool, GqlFault>
 /// Whether some document begins with the tokens and one of this kind. They are left as they were.
 fn consumes_with(alloc: Global, tokens: &mut Vec<Token<'_>>, kind: Kind) -> Result<bool, GqlFault>
     ensures tells { IfOk result
-        (λ b. Tells b (Consumed (spec.all strict (tokens.old.items ++ any_of kind ∷ [])))) }
+        (λ b. TellsWhether b (Consumed (spec.all strict (tokens.old.items ++ any_of kind ∷ [])))) }
     ensures same { IfOk result (λ b. tokens.new.items ≡ tokens.old.items) }
     ensures memory { IfErr result (λ e. e ≡ faults.Memory) }
 {
@@ -53,7 +53,7 @@ fn consumes_with(alloc: Global, tokens: &mut Vec<Token<'_>>, kind: Kind) -> Resu
 /// Whether a token of one of the kinds can follow the tokens.
 fn can_follow(alloc: Global, tokens: &mut Vec<Token<'_>>, kinds: &[Kind]) -> Result<bool, GqlFault>
     ensures tells { IfOk result
-        (λ b. Tells b (CanFollow (spec.all strict) tokens.old.items kinds.now)) }
+        (λ b. TellsWhether b (CanFollow (spec.all strict) tokens.old.items kinds.now)) }
     ensures memory { IfErr result (λ e. e ≡ faults.Memory) }
 {
     for i in 0..kinds.len() {

@@ -6,7 +6,7 @@ use Rattle.gql_tokens.specs.declared.kinds.Kind.{Kind}
 use Rattle.gql_tokens.specs.declared.kinds.Kind.TheVariants as k
 use Rattle.gql_tokens.specs.declared.scanner.Class.{Class}
 use Rattle.gql_tokens.specs.declared.scanner.Class.TheVariants as c
-use Rattle.gql_tokens.specs.Lexical.{Token, IsLexeme, mark, dots, name, number, empty, string, block, IsString, IsBlock, name_kind, token_of, between, Follows}
+use Rattle.gql_tokens.specs.Lexical.{Token, IsLexeme, mark, dots, name, number, empty, string, block, IsString, IsBlock, name_kind, token_of, between, MayFollow}
 use Rattle.gql_tokens.specs.Lexical as lex
 use Rattle.gql_print.specs.Canonical.{source_of, source, separator}
 use Rattle.gql_print.proofs.Tokens.{name_cases, mark_cases}
@@ -61,7 +61,7 @@ pub name_source : (a : List ℕ) → source_of (name_kind a) a ≡ a
 name_source a = name_cases (λ kind a. source_of kind a ≡ a) (refl, (refl, (refl, (refl, (refl, (refl, (refl, (refl, tt)))))))) (λ a. refl) a
 
 -- a space may follow any token
-pub follows_space : (class : Class) (w : List ℕ) → Follows class (32 ∷ w)
+pub follows_space : (class : Class) (w : List ℕ) → MayFollow class (32 ∷ w)
 follows_space (c.Mark kind) w = tt
 follows_space c.Name w = refl
 follows_space c.Number w = refl
@@ -69,7 +69,7 @@ follows_space c.Empty w = refl
 follows_space c.Str w = tt
 follows_space c.Block w = tt
 
-pub follows_end : (class : Class) → Follows class []
+pub follows_end : (class : Class) → MayFollow class []
 follows_end (c.Mark kind) = tt
 follows_end c.Name = tt
 follows_end c.Number = tt
@@ -78,7 +78,7 @@ follows_end c.Str = tt
 follows_end c.Block = tt
 
 -- anything may follow a token that no space separates
-pub follows_any : (class : Class) (a w : List ℕ) → IsLexeme class a → separator (token_of class a).kind ≡ [] → Follows class w
+pub follows_any : (class : Class) (a w : List ℕ) → IsLexeme class a → separator (token_of class a).kind ≡ [] → MayFollow class w
 follows_any (c.Mark kind) a w is e = tt
 follows_any c.Name a w is e = absurd (some (32) [] (sym (name_separator a) ∙ e))
   where

@@ -9,7 +9,7 @@ use Rattle.gql_tokens.specs.declared.kinds.Kind.{Kind}
 use Rattle.gql_tokens.specs.declared.kinds.Kind.TheVariants as k
 use Rattle.gql_tokens.specs.declared.scanner.Class.{Class}
 use Rattle.gql_tokens.specs.declared.scanner.Class.TheVariants as c
-use Rattle.gql_tokens.specs.Lexical.{Token, IsLexeme, IsReal, token_of, Leads, here, skip, token, blank, Lexes, Follows}
+use Rattle.gql_tokens.specs.Lexical.{Token, IsLexeme, IsReal, token_of, Leads, here, skip, token, blank, Lexes, MayFollow}
 use Rattle.gql_tokens.specs.Lexical as lex
 use Rattle.gql_print.specs.Canonical.{source, separator, text_of, AreBytes}
 use Rattle.gql_print.proofs.Tokens.{name_cases, mark_cases}
@@ -24,7 +24,7 @@ text_lexes (t ∷ []) (((class, a, is, same), whole), rest) =
 text_lexes (t ∷ (u ∷ us)) (((class, a, is, same), whole), rest) = one (separator_is t.kind) (text_lexes (u ∷ us) rest)
   where
     -- with what separates it from the next
-    with_separator : (sep : List ℕ) → separator t.kind ≡ sep → Leads (u ∷ us) (sep ++ text_of (u ∷ us)) [] → Follows class (sep ++ text_of (u ∷ us)) → Lexes (t ∷ (u ∷ us)) (source t ++ (separator t.kind ++ text_of (u ∷ us)))
+    with_separator : (sep : List ℕ) → separator t.kind ≡ sep → Leads (u ∷ us) (sep ++ text_of (u ∷ us)) [] → MayFollow class (sep ++ text_of (u ∷ us)) → Lexes (t ∷ (u ∷ us)) (source t ++ (separator t.kind ++ text_of (u ∷ us)))
     with_separator sep e l follows =
         subst (λ (q : List ℕ). Lexes (t ∷ (u ∷ us)) (source t ++ (q ++ text_of (u ∷ us)))) (sym e)
         (subst (λ (q : Token). Lexes (q ∷ (u ∷ us)) (source q ++ (sep ++ text_of (u ∷ us)))) (sym same)

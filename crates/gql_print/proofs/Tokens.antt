@@ -9,11 +9,11 @@ use Rattle.gql_tokens.specs.declared.kinds.Kind.TheVariants as k
 use Rattle.gql_tokens.specs.declared.scanner.Class.{Class}
 use Rattle.gql_tokens.specs.declared.scanner.Class.TheVariants as c
 use Rattle.gql_tokens.specs.KindTests.{same_kind, is_name}
-use Rattle.gql_tokens.specs.Lexical.{Token, IsLexeme, mark, dots, name, number, empty, string, block, mark_of, words, word_among, name_kind, token_of, IsReal}
+use Rattle.gql_tokens.specs.Lexical.{Token, IsLexeme, mark, dots, name, number, empty, string, block, mark_of, grammar_words, word_among, name_kind, token_of, IsReal}
 use Rattle.gql_tokens.proofs.Samples.{same_is}
 use Rattle.gql_print.specs.Words as w
 
--- ---- names are words of the grammar, or other names
+-- ---- names are grammar_words of the grammar, or other names
 
 module _ (P : Kind → List ℕ → Type 0) where
   abbrev pub ForWords : List (List ℕ × Kind) → Type 0
@@ -28,9 +28,9 @@ module _ (P : Kind → List ℕ → Type 0) where
       go true e rest = subst (λ (q : List ℕ). P x.1 q) (sym ((bytes_eq-Decides a x.0).0 e)) all.0
       go false e rest = rest
 
-  pub name_cases : ForWords words → ((a : List ℕ) → P k.Name a) → (a : List ℕ) → P (name_kind a) a
+  pub name_cases : ForWords grammar_words → ((a : List ℕ) → P k.Name a) → (a : List ℕ) → P (name_kind a) a
   unfolding name_kind
-  name_cases all other a = among words all other a
+  name_cases all other a = among grammar_words all other a
 
 -- ---- punctuators
 

@@ -31,7 +31,7 @@ use Rattle.gql_schema.specs.Words.{marked, mark_of, IsMarked}
 use Rattle.gql_schema.specs.Grammar.{IsSchema, any}
 use Rattle.gql_schema.specs.Reading.{schema, all}
 use Rattle.gql_schema.specs.Faults.{LexesMarked, IsText, IsViable, MayBegin, EndsTooSoon, StopsAt}
-use Rattle.gql_parser.specs.Judging.{Tells}
+use Rattle.gql_parser.specs.Judging.{TellsWhether}
 use Rattle.gql_schema.specs.Judging.{CanGoOn, scanned, last_next, cut_next, IsWhole, IsCut, RefusedLast, CutAt}
 use Rattle.gql_schema.proofs.Over.{are_marked}
 use Rattle.gql_schema.proofs.SchemasExact.{all_exact}
@@ -397,12 +397,12 @@ module _ (text : List ℕ) (ts now : List Token) (place : ℕ) (r : RefusedLast 
   next_is : (rest : List ℕ) (next : List Token) → rest ≡ drop place text → next ≡ last_next (scanned rest) rest last → next ≡ last_next (scanned (drop place text)) (drop place text) r.ends.last
   next_is rest next e f = f ∙ ap (λ (q : List ℕ). last_next (scanned q) q last) e ∙ ap (last_next (scanned (drop place text)) (drop place text)) same.1
 
-  pub last_on : (rest : List ℕ) (next : List Token) (b : Bool) → rest ≡ drop place text → next ≡ last_next (scanned rest) rest last → Tells b (CanGoOn now next) → b ≡ true → EndsTooSoon text
+  pub last_on : (rest : List ℕ) (next : List Token) (b : Bool) → rest ≡ drop place text → next ≡ last_next (scanned rest) rest last → TellsWhether b (CanGoOn now next) → b ≡ true → EndsTooSoon text
   last_on rest next false e f tells is = absurd cc
   last_on rest next true e f tells is = last_goes_on text ts r.kinds r.ends r.places place r.index r.why r.mark r.stand r.refused r.count r.place_is
       (subst (λ (q : List Token). CanGoOn q (last_next (scanned (drop place text)) (drop place text) r.ends.last)) same.0 (subst (CanGoOn now) (next_is rest next e f) tells))
 
-  pub last_off : (rest : List ℕ) (next : List Token) (b : Bool) → rest ≡ drop place text → next ≡ last_next (scanned rest) rest last → Tells b (CanGoOn now next) → b ≡ false → StopsAt text place
+  pub last_off : (rest : List ℕ) (next : List Token) (b : Bool) → rest ≡ drop place text → next ≡ last_next (scanned rest) rest last → TellsWhether b (CanGoOn now next) → b ≡ false → StopsAt text place
   last_off rest next true e f tells is = absurd cc
   last_off rest next false e f tells is = last_stops text ts r.kinds r.ends r.places place r.index r.why r.mark r.stand r.refused r.count r.place_is
       (λ h. tells (subst (CanGoOn now) (sym (next_is rest next e f)) (subst (λ (q : List Token). CanGoOn q (last_next (scanned (drop place text)) (drop place text) r.ends.last)) (sym same.0) h)))
@@ -417,11 +417,11 @@ module _ (text : List ℕ) (ts : List Token) (place : ℕ) (bytes : AreBytes tex
   cut_next_is : (rest : List ℕ) (next : List Token) → rest ≡ drop place text → next ≡ cut_next (scanned rest) rest → next ≡ cut_next (scanned (drop place text)) (drop place text)
   cut_next_is rest next e f = f ∙ ap (λ (q : List ℕ). cut_next (scanned q) q) e
 
-  pub cut_on : (rest : List ℕ) (next : List Token) (b : Bool) → rest ≡ drop place text → next ≡ cut_next (scanned rest) rest → Tells b (CanGoOn ts next) → b ≡ true → EndsTooSoon text
+  pub cut_on : (rest : List ℕ) (next : List Token) (b : Bool) → rest ≡ drop place text → next ≡ cut_next (scanned rest) rest → TellsWhether b (CanGoOn ts next) → b ≡ true → EndsTooSoon text
   cut_on rest next false e f tells is = absurd cc
   cut_on rest next true e f tells is = cut_goes_on text ts place c.kinds c.ends bytes utf8 (subst (CanGoOn ts) (cut_next_is rest next e f) tells)
 
-  pub cut_off : (rest : List ℕ) (next : List Token) (b : Bool) → rest ≡ drop place text → next ≡ cut_next (scanned rest) rest → Tells b (CanGoOn ts next) → b ≡ false → StopsAt text place
+  pub cut_off : (rest : List ℕ) (next : List Token) (b : Bool) → rest ≡ drop place text → next ≡ cut_next (scanned rest) rest → TellsWhether b (CanGoOn ts next) → b ≡ false → StopsAt text place
   cut_off rest next true e f tells is = absurd cc
   cut_off rest next false e f tells is = cut_stops text ts place c.kinds c.ends bytes utf8 c.may (λ h. tells (subst (CanGoOn ts) (sym (cut_next_is rest next e f)) h))
 

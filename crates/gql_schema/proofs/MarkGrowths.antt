@@ -15,7 +15,7 @@ use Rattle.gql_tokens.specs.declared.scanner.State.TheVariants as st
 use Rattle.gql_tokens.specs.declared.scanner.Move.TheVariants as m
 use Rattle.gql_tokens.specs.declared.scanner.Scan.TheVariants as sc
 use Rattle.gql_tokens.specs.KindTests.{same_kind}
-use Rattle.gql_tokens.specs.Lexical.{Token, IsLexeme, IsIgnored, Follows, Leads, here, skip, token, Lexes, IsReal, token_of}
+use Rattle.gql_tokens.specs.Lexical.{Token, IsLexeme, IsIgnored, MayFollow, Leads, here, skip, token, Lexes, IsReal, token_of}
 use Rattle.gql_tokens.specs.Lexing.{TokenAt, NoneIgnored, EndsWhole}
 use Rattle.gql_tokens.specs.Scanning.{start, token_at}
 use Rattle.gql_tokens.proofs.Scans.{heads_are, scan_end, end_scan}
@@ -175,11 +175,11 @@ heads x y p q e = cc
 found_once : (b : ℕ) (bs w : List ℕ) (class : Class) (n : ℕ) (all : List Token) → token_at b bs ≡ sc.Found class n → Lexes all ((b ∷ bs) ++ w) → (t : Token) → TokenAt (b ∷ bs) t → (more : List Token) × (all ≡ t ∷ more)
 found_once b bs w class n all e lexes t there = go (opened lexes)
   where
-    front : (rest : List ℕ) → Follows class rest → (rest ≡ [] → (v : List ℕ) → Follows class v) → Follows class (rest ++ w)
+    front : (rest : List ℕ) → MayFollow class rest → (rest ≡ [] → (v : List ℕ) → MayFollow class v) → MayFollow class (rest ++ w)
     front [] f ended = ended refl w
     front (x ∷ rest) f ended = longer class f
       where
-        longer : (class : Class) → Follows class (x ∷ rest) → Follows class ((x ∷ rest) ++ w)
+        longer : (class : Class) → MayFollow class (x ∷ rest) → MayFollow class ((x ∷ rest) ++ w)
         longer (c.Mark kind) f = tt
         longer c.Name f = f
         longer c.Number f = f

@@ -10,7 +10,7 @@ use Rattle.gql_tokens.specs.declared.kinds.Kind.TheVariants as k
 use Rattle.gql_tokens.specs.declared.scanner.Class.TheVariants as c
 use Rattle.gql_tokens.specs.KindTests.{same_kind}
 use Rattle.gql_tokens.specs.Lexical as lexical
-use Rattle.gql_tokens.specs.Lexical.{Token, begins, words, name_kind, token_of, Every, is_name_continue}
+use Rattle.gql_tokens.specs.Lexical.{Token, begins, grammar_words, name_kind, token_of, Every, is_name_continue}
 use Rattle.gql_tokens.specs.Ends.{words_from}
 use Rattle.gql_tokens.proofs.Words.{begins_front, begins_rest, every_behind, name_among}
 use Rattle.gql_schema.specs.declared.words.Word.{Word}
@@ -47,7 +47,7 @@ abbrev AllGood : Spellings → Type 0
 AllGood [] = Unit {0}
 AllGood (x ∷ xs) = Good x × AllGood xs
 
-good_words : AllGood words
+good_words : AllGood grammar_words
 unfolding name_kind all_continue
 good_words = ((refl, refl), ((refl, refl), ((refl, refl), ((refl, refl), ((refl, refl), ((refl, refl), ((refl, refl), ((refl, refl), tt))))))))
 
@@ -61,7 +61,7 @@ good_locations = ((refl, refl), ((refl, refl), ((refl, refl), ((refl, refl), ((r
 
 -- ---- what a name is that begins so
 
--- the words of a table are what it says
+-- the grammar_words of a table are what it says
 abbrev Said : Table → Type 0
 Said [] = Unit {0}
 Said (x ∷ xs) = (word_of x.0 ≡ x.1) × Said xs
@@ -128,13 +128,13 @@ plain_among text y h = go (else_cases (word_among keywords y) (word_among locati
       where
         at_location : (word_among locations y ≡ w.Other) ⊎ Among (mark k.Name (word_among locations y)) (marks (spelled_from text (as_names locations))) → Among (mark k.Name (word_among locations y)) (marks (names_from text))
         at_location (inl e) = none (word_among locations y) e
-        at_location (inr m) = inr (among_behind (mark k.Name (word_among locations y)) (spelled_from text words) (spelled_from text (as_names keywords) ++ spelled_from text (as_names locations))
+        at_location (inr m) = inr (among_behind (mark k.Name (word_among locations y)) (spelled_from text grammar_words) (spelled_from text (as_names keywords) ++ spelled_from text (as_names locations))
             (among_behind (mark k.Name (word_among locations y)) (spelled_from text (as_names keywords)) (spelled_from text (as_names locations)) m))
     go (inr a) = subst (λ (q : Word). Among (mark k.Name q) (marks (names_from text))) (sym a) (at_keyword (table_among keywords text y said_keywords h))
       where
         at_keyword : (word_among keywords y ≡ w.Other) ⊎ Among (mark k.Name (word_among keywords y)) (marks (spelled_from text (as_names keywords))) → Among (mark k.Name (word_among keywords y)) (marks (names_from text))
         at_keyword (inl e) = none (word_among keywords y) e
-        at_keyword (inr m) = inr (among_behind (mark k.Name (word_among keywords y)) (spelled_from text words) (spelled_from text (as_names keywords) ++ spelled_from text (as_names locations))
+        at_keyword (inr m) = inr (among_behind (mark k.Name (word_among keywords y)) (spelled_from text grammar_words) (spelled_from text (as_names keywords) ++ spelled_from text (as_names locations))
             (among_front (mark k.Name (word_among keywords y)) (spelled_from text (as_names keywords)) (spelled_from text (as_names locations)) m))
 
 pub no_word : (kind : Kind) (a : List ℕ) → same_kind k.Name kind ≡ false → word_by kind a ≡ w.Other
@@ -155,7 +155,7 @@ abbrev OwnKinds : Spellings → Type 0
 OwnKinds [] = Unit {0}
 OwnKinds (x ∷ xs) = (same_kind k.Name x.1 ≡ false) × OwnKinds xs
 
-own_kinds : OwnKinds words
+own_kinds : OwnKinds grammar_words
 own_kinds = (refl, (refl, (refl, (refl, (refl, (refl, (refl, (refl, tt))))))))
 
 -- a word that has a kind of its own
@@ -174,9 +174,9 @@ kind_among (x ∷ xs) text t own h = go (begins text x.0) refl h (λ m. kind_amo
 pub names_among : (text more : List ℕ) → Among (mark_of (token_of c.Name (text ++ more))) (marks (names_from text))
 names_among text more = go (name_among text more)
   where
-    go : Among (name_kind (text ++ more)) (k.Name ∷ words_from text words) → Among (mark_of (token_of c.Name (text ++ more))) (marks (names_from text))
+    go : Among (name_kind (text ++ more)) (k.Name ∷ words_from text grammar_words) → Among (mark_of (token_of c.Name (text ++ more))) (marks (names_from text))
     go (inl e) = subst (λ (q : Kind). Among (mark q (word_by q (text ++ more))) (marks (names_from text))) (sym e) (plain_among text (text ++ more) (begins_front text more))
-    go (inr h) = inr (among_front (mark_of (token_of c.Name (text ++ more))) (spelled_from text words) (spelled_from text (as_names keywords) ++ spelled_from text (as_names locations)) (kind_among words text (token_of c.Name (text ++ more)) own_kinds h))
+    go (inr h) = inr (among_front (mark_of (token_of c.Name (text ++ more))) (spelled_from text grammar_words) (spelled_from text (as_names keywords) ++ spelled_from text (as_names locations)) (kind_among grammar_words text (token_of c.Name (text ++ more)) own_kinds h))
 
 -- ---- each of those marks may come of it
 
@@ -216,7 +216,7 @@ abbrev Lettered : {A : Type 0} → List (List ℕ × A) → Type 0
 Lettered [] = Unit {0}
 Lettered (x ∷ xs) = (all_letters x.0 ≡ true) × Lettered xs
 
-lettered_words : Lettered words
+lettered_words : Lettered grammar_words
 unfolding all_letters
 lettered_words = (refl, (refl, (refl, (refl, (refl, (refl, (refl, (refl, tt))))))))
 
@@ -241,7 +241,7 @@ no_table (x ∷ xs) text h = cond_both (bytes_eq (text ++ (48 ∷ [])) x.0) x.1 
 
 digit_kind : (text : List ℕ) → name_kind (text ++ (48 ∷ [])) ≡ k.Name
 unfolding name_kind
-digit_kind text = no_kind words text lettered_words
+digit_kind text = no_kind grammar_words text lettered_words
 
 digit_word : (text : List ℕ) → word_of (text ++ (48 ∷ [])) ≡ w.Other
 unfolding word_of
@@ -249,7 +249,7 @@ digit_word text = ap (λ (q : Word). or_else q (word_among locations (text ++ (4
 
 pub names_grow : (text : List ℕ) (m : Mark) → Among m (marks (names_from text)) → Grown text m
 names_grow text m (inl e) = (48 ∷ [], (refl, tt), ap (λ (q : Kind). mark q (word_by q (text ++ (48 ∷ [])))) (digit_kind text) ∙ ap (mark k.Name) (digit_word text ∙ sym other_word) ∙ sym e)
-names_grow text m (inr h) = elim (among_parts m (spelled_from text words) (spelled_from text (as_names keywords) ++ spelled_from text (as_names locations)) h) [
-  | inl x ↦ grows_word words text m good_words x
+names_grow text m (inr h) = elim (among_parts m (spelled_from text grammar_words) (spelled_from text (as_names keywords) ++ spelled_from text (as_names locations)) h) [
+  | inl x ↦ grows_word grammar_words text m good_words x
   | inr x ↦ elim (among_parts m (spelled_from text (as_names keywords)) (spelled_from text (as_names locations)) x) [ inl y ↦ grows_word (as_names keywords) text m good_keywords y | inr y ↦ grows_word (as_names locations) text m good_locations y ]
 ]

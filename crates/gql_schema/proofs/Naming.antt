@@ -9,7 +9,7 @@ use Rattle.indexmap.specs.IndexSet.{insert_key}
 use Rattle.gql_schema.specs.declared.terms.Definition.{Definition}
 use Rattle.gql_schema.specs.declared.terms.Field.{Field}
 use Rattle.gql_schema.specs.declared.terms.Part.{Part}
-use Rattle.gql_schema.specs.Rules.{Name, has_name, or_then, first_again, first_not_in, twice_at, twice_from, definition_name, definition_types, field_types, own}
+use Rattle.gql_schema.specs.Rules.{Name, has_name, or_then, first_again, first_not_in, twice_at, twice_from, definition_name, definition_types, field_types, own_definition}
 
 -- ---- one turn of a loop
 
@@ -112,8 +112,8 @@ pub single_unknown : (known : List Name) (n m : Name) → m ≡ n → has_name k
 single_unknown known n m e is = ap (λ (q : Name). Some q) e ∙ sym (cond-false (has_name known n) None (Some n) (ap (has_name known) (sym e) ∙ is))
 
 pub own_turn : (parts : List Part) (i : ℕ) (x : Part) → i < length parts → x ≡ get_or parts i x
-    → flat_map definition_types (flat_map own (drop i parts)) ≡ flat_map definition_types (own x) ++ flat_map definition_types (flat_map own (drop (i + 1) parts))
-own_turn parts i x lt is = ap (λ (q : List Part). flat_map definition_types (flat_map own q)) (at_turn parts i x lt is) ∙ flat_map-append definition_types (own x) (flat_map own (drop (i + 1) parts))
+    → flat_map definition_types (flat_map own_definition (drop i parts)) ≡ flat_map definition_types (own_definition x) ++ flat_map definition_types (flat_map own_definition (drop (i + 1) parts))
+own_turn parts i x lt is = ap (λ (q : List Part). flat_map definition_types (flat_map own_definition q)) (at_turn parts i x lt is) ∙ flat_map-append definition_types (own_definition x) (flat_map own_definition (drop (i + 1) parts))
 
 pub field_turn : (fields : List Field) (i : ℕ) (x : Field) → i < length fields → x ≡ get_or fields i x → flat_map field_types (drop i fields) ≡ field_types x ++ flat_map field_types (drop (i + 1) fields)
 field_turn fields i x lt is = ap (flat_map field_types) (at_turn fields i x lt is)

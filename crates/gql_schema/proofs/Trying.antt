@@ -2,7 +2,7 @@
 use Rattle.std.proofs.Common.{◌≡◌, ℕ, zero, suc, ◌+◌, ◌<◌, ◌≤◌, Bool, true, false, List, [], ◌∷◌, take, length, get_or, refl, sym, subst, ◌∙◌, arith, ◌⊎◌, inl, inr}
 use Rattle.std.proofs.lemmas.List.{take_all}
 use Rattle.token_read.specs.Texts.{Among}
-use Rattle.gql_parser.specs.Judging.{Tells}
+use Rattle.gql_parser.specs.Judging.{TellsWhether}
 
 module _ {X : Type 0} (P : X → Type 0) where
   -- one of these
@@ -24,7 +24,7 @@ module _ {X : Type 0} (P : X → Type 0) where
   pub any_over : (xs : List X) (i : ℕ) → length xs ≤ i → (Any (take i xs) → ⊥) → Any xs → ⊥
   any_over xs i le none c = none (subst Any (sym (take_all i xs le)) c)
 
-  pub any_none : (xs : List X) (i : ℕ) (y : X) (b : Bool) → i < length xs → y ≡ get_or xs i y → (Any (take i xs) → ⊥) → Tells b (P y) → b ≡ false → Any (take (i + 1) xs) → ⊥
+  pub any_none : (xs : List X) (i : ℕ) (y : X) (b : Bool) → i < length xs → y ≡ get_or xs i y → (Any (take i xs) → ⊥) → TellsWhether b (P y) → b ≡ false → Any (take (i + 1) xs) → ⊥
   any_none xs i y true lt is before tells e found = absurd cc
   any_none xs i y false lt is before tells e (x, among, h) =
       let same : i + 1 ≡ suc i = omega arith in
@@ -34,6 +34,6 @@ module _ {X : Type 0} (P : X → Type 0) where
       go (inl z) = before (x, z, h)
       go (inr z) = tells (subst P (z ∙ sym is) h)
 
-  pub any_here : (xs : List X) (i : ℕ) (y : X) (b : Bool) → i < length xs → y ≡ get_or xs i y → Tells b (P y) → b ≡ true → Any xs
+  pub any_here : (xs : List X) (i : ℕ) (y : X) (b : Bool) → i < length xs → y ≡ get_or xs i y → TellsWhether b (P y) → b ≡ true → Any xs
   any_here xs i y false lt is tells e = absurd cc
   any_here xs i y true lt is tells e = (y, subst (λ (q : X). Among q xs) (sym is) (among_at xs i y lt), tells)

@@ -4,7 +4,7 @@ use Rattle.gql_tokens.specs.declared.kinds.Kind.{Kind}
 use Rattle.gql_tokens.specs.declared.kinds.Kind.TheVariants as k
 use Rattle.gql_tokens.specs.declared.scanner.State.{State}
 use Rattle.gql_tokens.specs.declared.scanner.State.TheVariants as st
-use Rattle.gql_tokens.specs.Lexical.{Token, begins, words}
+use Rattle.gql_tokens.specs.Lexical.{Token, begins, grammar_words}
 use Rattle.gql_tokens.specs.Ends as ends
 use Rattle.gql_schema.specs.Words.{Table, keywords, locations}
 
@@ -22,7 +22,7 @@ word_if text word kind = if begins text word then spelled kind word ∷ [] else 
 abbrev pub Spellings : Type 0
 Spellings = List (List ℕ × Kind)
 
--- the words that begin so
+-- the grammar_words that begin so
 unfoldable pub spelled_from : List ℕ → Spellings → List Token
 spelled_from text [] = []
 spelled_from text (x ∷ xs) = if begins text x.0 then spelled x.1 x.0 ∷ spelled_from text xs else spelled_from text xs
@@ -31,9 +31,9 @@ abbrev pub as_names : Table → Spellings
 as_names [] = []
 as_names (x ∷ xs) = (x.0, k.Name) ∷ as_names xs
 
--- the words that have kinds of their own, and those that have none
+-- the grammar_words that have kinds of their own, and those that have none
 abbrev pub kinds_from : List ℕ → List Token
-kinds_from text = spelled_from text words
+kinds_from text = spelled_from text grammar_words
 
 abbrev pub keywords_from : List ℕ → List Token
 keywords_from text = spelled_from text (as_names keywords)

@@ -35,12 +35,12 @@ IsReading answer (reading.Refused left) = (why : Refusal) × (rest : List (Lexem
 IsReading answer reading.Memory = Unit {0}
 
 -- the parser refuses none of these tokens: some schema begins with them
-abbrev pub Begins : List Token → Type 0
-Begins ts = Consumed (all (map marked ts))
+abbrev pub BeginsSchema : List Token → Type 0
+BeginsSchema ts = Consumed (all (map marked ts))
 
 -- some schema begins with these tokens and one of those
 abbrev pub CanGoOn : List Token → List Token → Type 0
-CanGoOn ts next = (t : Token) × Among t next × Begins (ts ++ (t ∷ []))
+CanGoOn ts next = (t : Token) × Among t next × BeginsSchema (ts ++ (t ∷ []))
 
 abbrev pub scanned : List ℕ → Scan
 scanned rest = token_at (slice_index rest 0) (drop 1 rest)

@@ -23,14 +23,14 @@ abbrev pub Name : Type 0
 Name = List ℕ
 
 -- the definition of a type
-abbrev pub own : Part → List Definition
-own part.Root = []
-own part.Directive = []
-own (part.Type d) = d ∷ []
+abbrev pub own_definition : Part → List Definition
+own_definition part.Root = []
+own_definition part.Directive = []
+own_definition (part.Type d) = d ∷ []
 
 -- the definitions of types, in their order
 abbrev pub definitions : List Part → List Definition
-definitions ps = flat_map own ps
+definitions ps = flat_map own_definition ps
 
 -- the scalars that are there (3.5)
 abbrev pub built_in : List Name
@@ -45,8 +45,8 @@ or_then (Some name) other = Some name
 or_then None other = other
 
 -- with the name, where it is new
-abbrev pub noted : List Name → Name → Bool → List Name
-noted names name is_new = if is_new then names ++ (name ∷ []) else names
+abbrev pub with_name : List Name → Name → Bool → List Name
+with_name names name is_new = if is_new then names ++ (name ∷ []) else names
 
 -- with the name, unless it is there
 abbrev pub added : List Name → Name → List Name
@@ -132,7 +132,7 @@ abbrev pub known : List Part → List Name
 known ps = built_in ++ names_of (definitions ps)
 
 abbrev pub part_types : Part → List Name
-part_types p = flat_map definition_types (own p)
+part_types p = flat_map definition_types (own_definition p)
 
 -- the names that stand for types
 abbrev pub types_in : List Part → List Name
@@ -174,7 +174,7 @@ schema_of ps = map scalar built_in ++ map type_def (definitions ps)
 
 -- ---- what the rules say
 
-abbrev pub Rules : List Part → Ruling → Type 0
-Rules ps ruling.Kept = (first_twice ps ≡ None) × (first_unknown ps ≡ None)
-Rules ps (ruling.Twice name) = first_twice ps ≡ Some name
-Rules ps (ruling.Unknown name) = (first_twice ps ≡ None) × (first_unknown ps ≡ Some name)
+abbrev pub HasRuling : List Part → Ruling → Type 0
+HasRuling ps ruling.Kept = (first_twice ps ≡ None) × (first_unknown ps ≡ None)
+HasRuling ps (ruling.Twice name) = first_twice ps ≡ Some name
+HasRuling ps (ruling.Unknown name) = (first_twice ps ≡ None) × (first_unknown ps ≡ Some name)

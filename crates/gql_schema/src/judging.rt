@@ -5,7 +5,7 @@ ghost use Rattle.std.specs.Str.{IsUtf8};
 ghost use Rattle.gql_tokens.specs.Lexing.{IsLexed, Placed};
 ghost use Rattle.gql_tokens.specs.Lexical as lexical;
 ghost use Rattle.token_read.specs.Texts.{Settled as Settled_};
-ghost use Rattle.gql_parser.specs.Judging.{Tells};
+ghost use Rattle.gql_parser.specs.Judging.{TellsWhether};
 ghost use Rattle.gql_schema.specs.Words.{marked};
 ghost use Rattle.gql_schema.specs.Reading as spec;
 ghost use Rattle.gql_schema.specs.Judging as judging;
@@ -43,7 +43,7 @@ fn read(alloc: Global, tokens: &Vec<Token<'_>>) -> Reading
 
 /// Whether some schema begins with the tokens.
 fn consumes(alloc: Global, tokens: &[Token<'_>]) -> Result<bool, Memory>
-    ensures { IfOk result (λ b. Tells b (judging.Begins tokens.now)) }
+    ensures { IfOk result (λ b. TellsWhether b (judging.BeginsSchema tokens.now)) }
 {
     let mut left = Left::new(tokens);
     match all(alloc, &mut left) {
@@ -60,7 +60,7 @@ fn consumes_with<'a>(
     next: &Token<'a>,
 ) -> Result<bool, Memory>
     ensures tells { IfOk result
-        (λ b. Tells b (judging.Begins (tokens.old.items ++ next.now ∷ []))) }
+        (λ b. TellsWhether b (judging.BeginsSchema (tokens.old.items ++ next.now ∷ []))) }
     ensures same { IfOk result (λ b. tokens.new.items ≡ tokens.old.items) }
 {
     tokens.push(next.copy())?;
@@ -75,7 +75,7 @@ fn can_go_on<'a>(
     tokens: &mut Vec<Token<'a>>,
     next: &[Token<'a>],
 ) -> Result<bool, Memory>
-    ensures { IfOk result (λ b. Tells b (CanGoOn tokens.old.items next.now)) }
+    ensures { IfOk result (λ b. TellsWhether b (CanGoOn tokens.old.items next.now)) }
 {
     for i in 0..next.len() {
         if consumes_with(alloc, tokens, &next[i])? {

@@ -14,7 +14,7 @@ use std::alloc::Global;
 /// Notes the name, and says whether it is new.
 fn note(names: &mut IndexSet<Text>, name: &Text) -> Result<bool, Memory>
     ensures is_new { IfOk result (λ r. r ≡ not (spec.has_name names.old.keys name.now)) }
-    ensures names { IfOk result (λ r. names.new.keys ≡ spec.noted names.old.keys name.now r) }
+    ensures names { IfOk result (λ r. names.new.keys ≡ spec.with_name names.old.keys name.now r) }
 {
     let is_new = names.insert(name.copy()?)?;
     Ok(is_new)
@@ -108,9 +108,9 @@ fn again_at(
 }
 
 fn again_in(alloc: Global, names: &mut IndexSet<Text>, part: &Part) -> Result<Option<Text>, Memory>
-    ensures twice { IfOk result (λ r. r ≡ spec.twice_from names.old.keys (spec.own part.now)) }
+    ensures twice { IfOk result (λ r. r ≡ spec.twice_from names.old.keys (spec.own_definition part.now)) }
     ensures names { IfOk result (λ r. r ≡ None
-        → names.new.keys ≡ names.old.keys ++ spec.names_of (spec.own part.now)) }
+        → names.new.keys ≡ names.old.keys ++ spec.names_of (spec.own_definition part.now)) }
 {
     match part {
         Part::Type(definition) => again_at(alloc, names, definition),
@@ -282,7 +282,7 @@ pub enum Ruling {
 
 /// Whether each name is defined once, and each name of a type is known; or the first that is not.
 pub fn rule(alloc: Global, parts: &[Part]) -> Result<Ruling, Memory>
-    ensures { IfOk result (λ r. spec.Rules parts.now r) }
+    ensures { IfOk result (λ r. spec.HasRuling parts.now r) }
 {
     let mut names = built_in(alloc)?;
     if let Some(name) = first_twice(alloc, &mut names, parts)? {

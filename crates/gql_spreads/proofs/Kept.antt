@@ -9,8 +9,8 @@ use Rattle.gql_spreads.specs.declared.search.Mark.{Mark}
 use Rattle.gql_spreads.specs.declared.search.Mark.TheVariants as mark
 use Rattle.gql_spreads.specs.declared.search.Group.{Group}
 use Rattle.gql_spreads.specs.declared.search.Search.{Search}
-use Rattle.gql_spreads.specs.Graph.{IsEdge, Reaches, IsGraph, AreCycles}
-use Rattle.gql_spreads.specs.Search.{Part, nodes_of, edges_of, groups_of, group_at, group_on, mark_at, IsDone, StaySeen, done_all, Stands, IsSound, Keeps, steps_for, steps_left, IsStep, IsBlank, is_cyclic}
+use Rattle.gql_spreads.specs.Graph.{IsEdge, ReachesNode, IsGraph, AreCycles}
+use Rattle.gql_spreads.specs.Search.{NodeGroup, nodes_of, edges_of, groups_of, group_at, group_on, mark_at, IsDone, StaySeen, done_all, StandsOnOthers, IsSearchSound, KeepsStack, steps_for, steps_left, IsStep, IsBlank, is_cyclic}
 use Rattle.gql_spreads.proofs.Members.{contains_none, edge_within, contains_along, place_contains}
 use Rattle.gql_spreads.proofs.Marks.{fresh_open, fresh_done, set_here, done_seen, set_seen, set_left, done_left, seen_within}
 use Rattle.gql_spreads.proofs.Stack.{not_fresh, without, last_source, skipped, circled, joined, joins, entry, entered_marks, enters_from, enters_first}
@@ -48,17 +48,17 @@ module _ {A : Type 0} where
 -- ---- the last group
 
 pub record Top (graph : List (List ℕ)) (s : Search) : Type 0 where
-  pub g : Part
-  pub gs : List Part
-  pub sound : IsSound graph s.marks.items (g ∷ gs)
+  pub g : NodeGroup
+  pub gs : List NodeGroup
+  pub sound : IsSearchSound graph s.marks.items (g ∷ gs)
   pub nodes_is : s.nodes.items ≡ nodes_of gs ++ g.nodes
   pub edges_is : s.edges.items ≡ edges_of gs ++ g.edges
   pub groups_is : s.groups.items ≡ groups_of gs ++ (group_on gs g.cyclic ∷ [])
 
-pub top : (graph : List (List ℕ)) (s : Search) → 0 < length s.groups.items → Keeps graph s → Top graph s
+pub top : (graph : List (List ℕ)) (s : Search) → 0 < length s.groups.items → KeepsStack graph s → Top graph s
 top graph s some k = go k.stack k.sound k.nodes_is k.edges_is k.groups_is
   where
-    go : (st : List Part) → IsSound graph s.marks.items st → s.nodes.items ≡ nodes_of st → s.edges.items ≡ edges_of st → s.groups.items ≡ groups_of st → Top graph s
+    go : (st : List NodeGroup) → IsSearchSound graph s.marks.items st → s.nodes.items ≡ nodes_of st → s.edges.items ≡ edges_of st → s.groups.items ≡ groups_of st → Top graph s
     go [] sound n e gr = let none : length s.groups.items ≡ 0 = ap length gr in absurd (omega arith)
     go (g ∷ gs) sound n e gr = record { g = g; gs = gs; sound = sound; nodes_is = n; edges_is = e; groups_is = gr }
 
@@ -88,7 +88,7 @@ module _ (graph : List (List ℕ)) (s t : Search) (k : Top graph s) where
       → t.marks.items ≡ done_all (drop group.node s.nodes.items) group.cyclic s.marks.items → t.nodes.items ≡ take group.node s.nodes.items → t.edges.items ≡ s.edges.items
       → t.groups.items ≡ take (length s.groups.items - 1) s.groups.items → IsStep graph s t
   left group is over marks_are nodes_are edges_are groups_are = record {
-    keeps = record { stack = k.gs; sound = subst (λ (q : List Mark). IsSound graph q k.gs) (sym marks_is) (leaves graph s.marks.items k.g k.gs none k.sound); nodes_is = nodes_are ∙ ap (λ (n : ℕ). take n s.nodes.items) node ∙ ap (take (length (nodes_of k.gs))) k.nodes_is ∙ take-append_seam (nodes_of k.gs) k.g.nodes; edges_is = edges_are ∙ k.edges_is ∙ ap (λ (q : List ℕ). edges_of k.gs ++ q) none ∙ append-nil (edges_of k.gs); groups_is = fewer };
+    keeps = record { stack = k.gs; sound = subst (λ (q : List Mark). IsSearchSound graph q k.gs) (sym marks_is) (leaves graph s.marks.items k.g k.gs none k.sound); nodes_is = nodes_are ∙ ap (λ (n : ℕ). take n s.nodes.items) node ∙ ap (take (length (nodes_of k.gs))) k.nodes_is ∙ take-append_seam (nodes_of k.gs) k.g.nodes; edges_is = edges_are ∙ k.edges_is ∙ ap (λ (q : List ℕ). edges_of k.gs ++ q) none ∙ append-nil (edges_of k.gs); groups_is = fewer };
     falls = falls;
     seen = subst (λ (q : List Mark). StaySeen s.marks.items q) (sym marks_is) (done_seen k.g.nodes k.g.cyclic s.marks.items);
   }
@@ -150,7 +150,7 @@ module _ (graph : List (List ℕ)) (s t : Search) (k : Top graph s) where
     pub skips : (c : Bool) → mark_at s.marks.items p.w ≡ mark.Done c → t.marks.items ≡ s.marks.items → t.nodes.items ≡ s.nodes.items → t.edges.items ≡ take (length s.edges.items - 1) s.edges.items
         → t.groups.items ≡ s.groups.items → IsStep graph s t
     skips c is marks_are nodes_are edges_are groups_are = record {
-      keeps = record { stack = without k.g p.es k.g.cyclic ∷ k.gs; sound = subst (λ (q : List Mark). IsSound graph q (without k.g p.es k.g.cyclic ∷ k.gs)) (sym marks_are) (skipped graph s.marks.items k.g k.gs p.es p.w c p.cut is k.sound); nodes_is = nodes_are ∙ k.nodes_is; edges_is = edges_are ∙ edges_front; groups_is = groups_are ∙ k.groups_is };
+      keeps = record { stack = without k.g p.es k.g.cyclic ∷ k.gs; sound = subst (λ (q : List Mark). IsSearchSound graph q (without k.g p.es k.g.cyclic ∷ k.gs)) (sym marks_are) (skipped graph s.marks.items k.g k.gs p.es p.w c p.cut is k.sound); nodes_is = nodes_are ∙ k.nodes_is; edges_is = edges_are ∙ edges_front; groups_is = groups_are ∙ k.groups_is };
       falls = (
           let marks : sum_by (steps_for (sum_by length graph)) t.marks.items ≡ sum_by (steps_for (sum_by length graph)) s.marks.items = ap (sum_by (steps_for (sum_by length graph))) marks_are in
           let edges : length t.edges.items ≡ length (edges_of k.gs ++ p.es) = ap length (edges_are ∙ edges_front) in
@@ -165,7 +165,7 @@ module _ (graph : List (List ℕ)) (s t : Search) (k : Top graph s) where
         → t.edges.items ≡ take (length s.edges.items - 1) s.edges.items
         → ((xs : List Group) (g : Group) → s.groups.items ≡ xs ++ (g ∷ []) → t.groups.items ≡ xs ++ (group_at group.node group.edge true ∷ [])) → IsStep graph s t
     circles group place is opened above marks_are nodes_are edges_are groups_are = record {
-      keeps = record { stack = without k.g p.es true ∷ k.gs; sound = subst (λ (q : List Mark). IsSound graph q (without k.g p.es true ∷ k.gs)) (sym marks_are) (circled graph s.marks.items k.g k.gs p.es p.w p.cut in_g k.sound); nodes_is = nodes_are ∙ k.nodes_is; edges_is = edges_are ∙ edges_front; groups_is = now };
+      keeps = record { stack = without k.g p.es true ∷ k.gs; sound = subst (λ (q : List Mark). IsSearchSound graph q (without k.g p.es true ∷ k.gs)) (sym marks_are) (circled graph s.marks.items k.g k.gs p.es p.w p.cut in_g k.sound); nodes_is = nodes_are ∙ k.nodes_is; edges_is = edges_are ∙ edges_front; groups_is = now };
       falls = (
           let marks : sum_by (steps_for (sum_by length graph)) t.marks.items ≡ sum_by (steps_for (sum_by length graph)) s.marks.items = ap (sum_by (steps_for (sum_by length graph))) marks_are in
           let edges : length t.edges.items ≡ length (edges_of k.gs ++ p.es) = ap length (edges_are ∙ edges_front) in
@@ -198,7 +198,7 @@ module _ (graph : List (List ℕ)) (s t : Search) (k : Top graph s) where
     pub two_groups : (group : Group) (place : ℕ) → group ≡ group_on k.gs k.g.cyclic → place < group.node → 1 < length s.groups.items
     two_groups group place is under = go k.gs (ap (λ (q : Group). q.node) is) k.groups_is
       where
-        go : (gs : List Part) → group.node ≡ length (nodes_of gs) → s.groups.items ≡ groups_of gs ++ (group_on gs k.g.cyclic ∷ []) → 1 < length s.groups.items
+        go : (gs : List NodeGroup) → group.node ≡ length (nodes_of gs) → s.groups.items ≡ groups_of gs ++ (group_on gs k.g.cyclic ∷ []) → 1 < length s.groups.items
         go [] at are = let none : group.node ≡ 0 = at in absurd (omega arith)
         go (f ∷ fs) at are =
             let one : length s.groups.items ≡ length (groups_of (f ∷ fs)) + 1 = ap length are ∙ length_one (groups_of (f ∷ fs)) (group_on (f ∷ fs) k.g.cyclic) in
@@ -216,13 +216,13 @@ module _ (graph : List (List ℕ)) (s t : Search) (k : Top graph s) where
         in_edges : Contains k.g.edges p.w
         in_edges = contains_along (p.es ++ (p.w ∷ [])) k.g.edges p.w (sym p.cut) (Contains-append_right p.es (p.w ∷ []) p.w (0, omega arith, refl))
 
-        go : (gs : List Part) → IsSound graph s.marks.items (k.g ∷ gs) → s.nodes.items ≡ nodes_of gs ++ k.g.nodes → s.edges.items ≡ edges_of gs ++ k.g.edges → s.groups.items ≡ groups_of gs ++ (group_on gs k.g.cyclic ∷ [])
+        go : (gs : List NodeGroup) → IsSearchSound graph s.marks.items (k.g ∷ gs) → s.nodes.items ≡ nodes_of gs ++ k.g.nodes → s.edges.items ≡ edges_of gs ++ k.g.edges → s.groups.items ≡ groups_of gs ++ (group_on gs k.g.cyclic ∷ [])
             → group.node ≡ length (nodes_of gs) → Contains (nodes_of gs) p.w → IsStep graph s t
         go [] sound n e gr from below = absurd (contains_none p.w below)
         go (f ∷ fs) sound n e gr from below = record {
           keeps = record {
             stack = joined k.g f ∷ fs;
-            sound = subst (λ (q : List Mark). IsSound graph q (joined k.g f ∷ fs)) (sym marks_are) (joins graph s.marks.items k.g f fs p.w in_edges below sound);
+            sound = subst (λ (q : List Mark). IsSearchSound graph q (joined k.g f ∷ fs)) (sym marks_are) (joins graph s.marks.items k.g f fs p.w in_edges below sound);
             nodes_is = nodes_are ∙ n ∙ append_assoc (nodes_of fs) f.nodes k.g.nodes;
             edges_is = edges_are ∙ e ∙ append_assoc (edges_of fs) f.edges k.g.edges;
             groups_is = now;
@@ -249,7 +249,7 @@ module _ (graph : List (List ℕ)) (s t : Search) (k : Top graph s) where
     opens graph_is fresh marks_are nodes_are edges_are groups_are = record {
       keeps = record {
         stack = entry graph p.w ∷ (without k.g p.es k.g.cyclic ∷ k.gs);
-        sound = subst (λ (q : List Mark). IsSound graph q (entry graph p.w ∷ (without k.g p.es k.g.cyclic ∷ k.gs))) (sym marks_is) (enters_from graph s.marks.items k.g k.gs p.es p.w p.cut fresh is_node k.sound);
+        sound = subst (λ (q : List Mark). IsSearchSound graph q (entry graph p.w ∷ (without k.g p.es k.g.cyclic ∷ k.gs))) (sym marks_is) (enters_from graph s.marks.items k.g k.gs p.es p.w p.cut fresh is_node k.sound);
         nodes_is = nodes_are ∙ ap (λ (q : List ℕ). q ++ (p.w ∷ [])) k.nodes_is;
         edges_is = edges_are ∙ ap (λ (q : List ℕ). q ++ slice_index_or graph p.w []) edges_front;
         groups_is = now;
@@ -286,24 +286,24 @@ module _ (graph : List (List ℕ)) (s t : Search) (k : Top graph s) where
 -- ---- a root
 
 -- nothing is open
-pub empty_stack : (graph : List (List ℕ)) (s : Search) → Keeps graph s → s.groups.items ≡ [] → IsSound graph s.marks.items [] × (s.nodes.items ≡ []) × (s.edges.items ≡ [])
+pub empty_stack : (graph : List (List ℕ)) (s : Search) → KeepsStack graph s → s.groups.items ≡ [] → IsSearchSound graph s.marks.items [] × (s.nodes.items ≡ []) × (s.edges.items ≡ [])
 empty_stack graph s k closed = go k.stack k.sound k.nodes_is k.edges_is k.groups_is
   where
-    go : (st : List Part) → IsSound graph s.marks.items st → s.nodes.items ≡ nodes_of st → s.edges.items ≡ edges_of st → s.groups.items ≡ groups_of st → IsSound graph s.marks.items [] × (s.nodes.items ≡ []) × (s.edges.items ≡ [])
+    go : (st : List NodeGroup) → IsSearchSound graph s.marks.items st → s.nodes.items ≡ nodes_of st → s.edges.items ≡ edges_of st → s.groups.items ≡ groups_of st → IsSearchSound graph s.marks.items [] × (s.nodes.items ≡ []) × (s.edges.items ≡ [])
     go [] sound n e gr = (sound, n, e)
     go (g ∷ gs) sound n e gr =
         let none : 0 ≡ length (groups_of gs) + 1 = ap length (sym closed ∙ gr) ∙ length_one (groups_of gs) (group_on gs g.cyclic) in
         absurd (omega arith)
 
-pub begins : (graph : List (List ℕ)) (s t : Search) (root : ℕ) → Keeps graph s → s.groups.items ≡ [] → root < length graph → mark_at s.marks.items root ≡ mark.Fresh
+pub begins : (graph : List (List ℕ)) (s t : Search) (root : ℕ) → KeepsStack graph s → s.groups.items ≡ [] → root < length graph → mark_at s.marks.items root ≡ mark.Fresh
     → t.marks.items ≡ set s.marks.items root (mark.Open (length s.nodes.items)) → t.nodes.items ≡ s.nodes.items ++ (root ∷ []) → t.edges.items ≡ s.edges.items ++ slice_index_or graph root []
-    → t.groups.items ≡ s.groups.items ++ (group_at (length s.nodes.items) (length s.edges.items) false ∷ []) → Keeps graph t
+    → t.groups.items ≡ s.groups.items ++ (group_at (length s.nodes.items) (length s.edges.items) false ∷ []) → KeepsStack graph t
 begins graph s t root k closed is_node fresh marks_are nodes_are edges_are groups_are =
     let none = empty_stack graph s k closed in
     let marks_is : t.marks.items ≡ entered_marks s.marks.items [] root = marks_are ∙ ap (λ (q : List ℕ). set s.marks.items root (mark.Open (length q))) none.1 in
     record {
       stack = entry graph root ∷ [];
-      sound = subst (λ (q : List Mark). IsSound graph q (entry graph root ∷ [])) (sym marks_is) (enters_first graph s.marks.items root fresh is_node none.0);
+      sound = subst (λ (q : List Mark). IsSearchSound graph q (entry graph root ∷ [])) (sym marks_is) (enters_first graph s.marks.items root fresh is_node none.0);
       nodes_is = nodes_are ∙ ap (λ (q : List ℕ). q ++ (root ∷ [])) none.1;
       edges_is = edges_are ∙ ap (λ (q : List ℕ). q ++ slice_index_or graph root []) none.2;
       groups_is = groups_are ∙ ap (λ (q : List Group). q ++ (group_at (length s.nodes.items) (length s.edges.items) false ∷ [])) closed
@@ -313,7 +313,7 @@ begins graph s t root k closed is_node fresh marks_are nodes_are edges_are group
 pub begun_seen : (marks : List Mark) (root place : ℕ) → root < length marks → mark_at (set marks root (mark.Open place)) root ≡ mark.Fresh → ⊥
 begun_seen marks root place within now = fresh_open place (sym now ∙ set_here marks root (mark.Open place) within)
 
-pub starts : (graph : List (List ℕ)) (s : Search) → IsBlank (length graph) s → Keeps graph s
+pub starts : (graph : List (List ℕ)) (s : Search) → IsBlank (length graph) s → KeepsStack graph s
 starts graph s b = record {
   stack = [];
   sound = record {
@@ -332,16 +332,16 @@ starts graph s b = record {
 
 -- ---- the answer
 
-pub answers : (graph : List (List ℕ)) (s : Search) → Keeps graph s → s.groups.items ≡ [] → ((v : ℕ) → v < length graph → mark_at s.marks.items v ≡ mark.Fresh → ⊥) → AreCycles graph (map is_cyclic s.marks.items)
+pub answers : (graph : List (List ℕ)) (s : Search) → KeepsStack graph s → s.groups.items ≡ [] → ((v : ℕ) → v < length graph → mark_at s.marks.items v ≡ mark.Fresh → ⊥) → AreCycles graph (map is_cyclic s.marks.items)
 answers graph s k closed seen = record {
   each = length-map s.marks.items is_cyclic ∙ sound.counts;
-  right = λ node h. subst (λ (b : Bool). IsTrue b ↔ Reaches graph node node) (sym (get_or-map is_cyclic s.marks.items node mark.Fresh false (subst (λ (n : ℕ). node < n) (sym sound.counts) h))) (go node (seen node h) (mark_at s.marks.items node) refl);
+  right = λ node h. subst (λ (b : Bool). IsTrue b ↔ ReachesNode graph node node) (sym (get_or-map is_cyclic s.marks.items node mark.Fresh false (subst (λ (n : ℕ). node < n) (sym sound.counts) h))) (go node (seen node h) (mark_at s.marks.items node) refl);
 }
   where
-    sound : IsSound graph s.marks.items []
+    sound : IsSearchSound graph s.marks.items []
     sound = (empty_stack graph s k closed).0
 
-    go : (node : ℕ) → (mark_at s.marks.items node ≡ mark.Fresh → ⊥) → (m : Mark) → mark_at s.marks.items node ≡ m → IsTrue (is_cyclic m) ↔ Reaches graph node node
+    go : (node : ℕ) → (mark_at s.marks.items node ≡ mark.Fresh → ⊥) → (m : Mark) → mark_at s.marks.items node ≡ m → IsTrue (is_cyclic m) ↔ ReachesNode graph node node
     go node seen mark.Fresh is = absurd (seen is)
     go node seen (mark.Open p) is = let none : p < 0 = (sound.placed node p is).0 in absurd (omega arith)
     go node seen (mark.Done true) is = (λ h. sound.on_cycle node is, λ h. refl)

@@ -5,18 +5,18 @@ use Rattle.std.proofs.lemmas.List.{get_or_append_left}
 use Rattle.std.proofs.lemmas.List.Elements.{Contains-append_cases, Contains-append_left, Contains-append_right}
 use Rattle.gql_spreads.specs.declared.search.Mark.{Mark}
 use Rattle.gql_spreads.specs.declared.search.Mark.TheVariants as mark
-use Rattle.gql_spreads.specs.Graph.{IsEdge, Reaches, edge, further}
-use Rattle.gql_spreads.specs.Search.{Part, nodes_of, mark_at, IsDone, StaySeen, IsPast, Stands, AllStand, IsSound, done_all}
+use Rattle.gql_spreads.specs.Graph.{IsEdge, ReachesNode, edge, further}
+use Rattle.gql_spreads.specs.Search.{NodeGroup, nodes_of, mark_at, IsDone, StaySeen, IsPast, StandsOnOthers, AllStand, IsSearchSound, done_all}
 use Rattle.gql_spreads.proofs.Members.{contains_none, one_contains, contains_one, contains_along, contains_same, contains_place, place_contains}
 use Rattle.gql_spreads.proofs.Marks.{fresh_open, fresh_done, open_done, open_open, done_done, seen_within, Marked, fresh, opened, done, marked, done_at, done_apart, done_seen, length-done}
 use Rattle.gql_spreads.proofs.Stack.{is_open, open_is, not_fresh, not_done, stays}
 
 -- no path leads from a node that is done to one that is not
-pub stays_done : (graph : List (List ℕ)) (marks : List Mark) → ((v w : ℕ) → IsDone marks v → IsEdge graph v w → IsDone marks w) → {a b : ℕ} → Reaches graph a b → IsDone marks a → IsDone marks b
+pub stays_done : (graph : List (List ℕ)) (marks : List Mark) → ((v w : ℕ) → IsDone marks v → IsEdge graph v w → IsDone marks w) → {a b : ℕ} → ReachesNode graph a b → IsDone marks a → IsDone marks b
 stays_done graph marks closed (edge {a} {b} e) d = closed a b d e
 stays_done graph marks closed (further {a} {b} e p) d = stays_done graph marks closed p (closed a b d e)
 
-module _ (graph : List (List ℕ)) (marks : List Mark) (g : Part) (gs : List Part) (none : g.edges ≡ []) (s : IsSound graph marks (g ∷ gs)) where
+module _ (graph : List (List ℕ)) (marks : List Mark) (g : NodeGroup) (gs : List NodeGroup) (none : g.edges ≡ []) (s : IsSearchSound graph marks (g ∷ gs)) where
   own_open : (v : ℕ) → Contains g.nodes v → Contains (nodes_of gs ++ g.nodes) v
   own_open v h = Contains-append_right (nodes_of gs) g.nodes v h
 
@@ -38,7 +38,7 @@ module _ (graph : List (List ℕ)) (marks : List Mark) (g : Part) (gs : List Par
       go (opened k o) = elim (Contains-append_cases (nodes_of gs) g.nodes w (open_is graph marks (g ∷ gs) s w k o)) [ inl i ↦ absurd (p.upper i) | inr i ↦ inr i ]
       go (done c d) = inl (c, d)
 
-  not_around : g.cyclic ≡ false → (v : ℕ) → Contains g.nodes v → Reaches graph v v → ⊥
+  not_around : g.cyclic ≡ false → (v : ℕ) → Contains g.nodes v → ReachesNode graph v v → ⊥
   not_around off v h r = first v h r (λ c d. not_done graph marks (g ∷ gs) s v c (own_open v h) d)
     where
       next : (v w : ℕ) → Contains g.nodes v → IsEdge graph v w → IsDone marks w
@@ -47,7 +47,7 @@ module _ (graph : List (List ℕ)) (marks : List Mark) (g : Part) (gs : List Par
           differ : g.cyclic ≡ true → ⊥
           differ on = let e : true ≡ false = sym on ∙ off in cc
 
-      first : (v : ℕ) → Contains g.nodes v → {b : ℕ} → Reaches graph v b → ((c : Bool) → mark_at marks b ≡ mark.Done c → ⊥) → ⊥
+      first : (v : ℕ) → Contains g.nodes v → {b : ℕ} → ReachesNode graph v b → ((c : Bool) → mark_at marks b ≡ mark.Done c → ⊥) → ⊥
       first v h (edge {b = b} e) never = let d = next v b h e in never d.0 d.1
       first v h (further {b = b} e p) never = let d = stays_done graph marks s.closed p (next v b h e) in never d.0 d.1
 
@@ -71,7 +71,7 @@ module _ (graph : List (List ℕ)) (marks : List Mark) (g : Part) (gs : List Par
       ]
       go (done d is) = inr (is ∙ ap (λ (q : Bool). mark.Done q) (done_done d c (sym (now_done v d is) ∙ now)))
 
-  pub leaves : IsSound graph (done_all g.nodes g.cyclic marks) gs
+  pub leaves : IsSearchSound graph (done_all g.nodes g.cyclic marks) gs
   leaves = record {
     counts = length-done g.nodes g.cyclic marks ∙ s.counts;
     stand = stays graph marks (done_all g.nodes g.cyclic marks) gs (done_seen g.nodes g.cyclic marks) s.stand.1;

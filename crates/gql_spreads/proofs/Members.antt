@@ -4,7 +4,7 @@ use Rattle.std.specs.Prelude.{Contains, All}
 use Rattle.std.proofs.lemmas.Bool.{cases_lt}
 use Rattle.std.proofs.lemmas.List.{get_or_default, get_or_past}
 use Rattle.std.proofs.lemmas.List.Elements.{Contains-append_cases, Contains-get_or, All-contains}
-use Rattle.gql_spreads.specs.Graph.{IsEdge, IsGraph, AreNodes}
+use Rattle.gql_spreads.specs.Graph.{IsEdge, IsGraph, LeadToNodes}
 
 pub contains_none : (x : ℕ) → Contains {X = ℕ} [] x → ⊥
 contains_none x h = let within : h.0 < 0 = h.1 in absurd (omega arith)

@@ -36,7 +36,7 @@ module _ (fragments : List Fragment) (numbers : BTreeMap (List ℕ) ℕ) (are : 
       let k : Contains (targets_of numbers f) j = kept (number_in numbers) (fragment_spreads f) b j contains (are b ∙ js) in
       subst (λ (xs : List ℕ). Contains xs j) (sym (get_or-map (targets_of numbers) fragments i f [] n.0 ∙ ap (targets_of numbers) same)) k
 
-  by_names : {i j : ℕ} → graphs.Reaches graph_of i j → (a : List ℕ) → number_of fragments a ≡ Some i → (b : List ℕ) × (number_of fragments b ≡ Some j) × Reaches fragments a b
+  by_names : {i j : ℕ} → graphs.ReachesNode graph_of i j → (a : List ℕ) → number_of fragments a ≡ Some i → (b : List ℕ) × (number_of fragments b ≡ Some j) × Reaches fragments a b
   by_names (graphs.edge {a = i} {b = j} e) a is = let k = edge_spreads i j a is e in (k.0, k.1, spread k.2)
   by_names (graphs.further {a = i} {b = j} e p) a is =
       let k = edge_spreads i j a is e in
@@ -47,7 +47,7 @@ module _ (fragments : List Fragment) (numbers : BTreeMap (List ℕ) ℕ) (are : 
   first_spread (spread s) = (s.0, s.1)
   first_spread (further s p) = (s.0, s.1)
 
-  by_numbers : {a b : List ℕ} → Reaches fragments a b → (i j : ℕ) → number_of fragments a ≡ Some i → number_of fragments b ≡ Some j → graphs.Reaches graph_of i j
+  by_numbers : {a b : List ℕ} → Reaches fragments a b → (i j : ℕ) → number_of fragments a ≡ Some i → number_of fragments b ≡ Some j → graphs.ReachesNode graph_of i j
   by_numbers (spread {a} {b} s) i j is js = graphs.edge (spread_edge i j a b is js s)
   by_numbers (further {a} {b} s p) i j is js =
       let f = first_spread p in
@@ -75,11 +75,11 @@ module _ (fragments : List Fragment) (numbers : BTreeMap (List ℕ) ℕ) (are : 
     pub have_marks : HaveMarks numbers cyclic
     have_marks name number is = subst (λ (n : ℕ). number < n) (sym (marks.each ∙ length-map fragments (targets_of numbers))) (number_within fragments name number (sym (are name) ∙ is))
 
-    flag_is : (name : List ℕ) (i : ℕ) → number_of fragments name ≡ Some i → IsTrue (slice_index_or cyclic i true) ↔ graphs.Reaches graph_of i i
+    flag_is : (name : List ℕ) (i : ℕ) → number_of fragments name ≡ Some i → IsTrue (slice_index_or cyclic i true) ↔ graphs.ReachesNode graph_of i i
     flag_is name i is =
         let within : i < length fragments = number_within fragments name i is in
         let lt : i < length graph_of = subst (λ (n : ℕ). i < n) (sym (length-map fragments (targets_of numbers))) within in
-        subst (λ (b : Bool). IsTrue b ↔ graphs.Reaches graph_of i i) (get_or_default cyclic i false true (subst (λ (n : ℕ). i < n) (sym marks.each) lt)) (marks.right i lt)
+        subst (λ (b : Bool). IsTrue b ↔ graphs.ReachesNode graph_of i i) (get_or_default cyclic i false true (subst (λ (n : ℕ). i < n) (sym marks.each) lt)) (marks.right i lt)
 
     pub bad_is : (name : List ℕ) → is_bad numbers cyclic name ≡ true → IsBad fragments name
     bad_is name e = go (number_of fragments name) refl (sym (ap (is_marked cyclic) (are name)) ∙ e)

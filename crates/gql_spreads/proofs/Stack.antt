@@ -7,15 +7,15 @@ use Rattle.std.proofs.lemmas.List.{length-set, get_or_append_left, get_or_push}
 use Rattle.std.proofs.lemmas.List.Elements.{Contains-append_cases, Contains-append_left, Contains-append_right, Contains-push}
 use Rattle.gql_spreads.specs.declared.search.Mark.{Mark}
 use Rattle.gql_spreads.specs.declared.search.Mark.TheVariants as mark
-use Rattle.gql_spreads.specs.Graph.{IsEdge, Reaches, edge, further}
-use Rattle.gql_spreads.specs.Search.{Part, nodes_of, edges_of, mark_at, IsDone, StaySeen, Leads, IsPast, Stands, AllStand, IsSound}
+use Rattle.gql_spreads.specs.Graph.{IsEdge, ReachesNode, edge, further}
+use Rattle.gql_spreads.specs.Search.{NodeGroup, nodes_of, edges_of, mark_at, IsDone, StaySeen, IsOnward, IsPast, StandsOnOthers, AllStand, IsSearchSound}
 use Rattle.gql_spreads.proofs.Members.{contains_none, contains_one, one_contains, before_last, contains_along, contains_same, contains_place, place_contains}
 use Rattle.gql_spreads.proofs.Walks.{along}
 use Rattle.gql_spreads.proofs.Marks.{fresh_open, fresh_done, open_done, open_open, done_done, set_here, set_there, set_seen, seen_within}
 
 -- ---- the open nodes
 
-module _ (graph : List (List ℕ)) (marks : List Mark) (stack : List Part) (sound : IsSound graph marks stack) where
+module _ (graph : List (List ℕ)) (marks : List Mark) (stack : List NodeGroup) (sound : IsSearchSound graph marks stack) where
   pub is_open : (v : ℕ) → Contains (nodes_of stack) v → (p : ℕ) × (mark_at marks v ≡ mark.Open p)
   is_open v h =
       let k = contains_place (nodes_of stack) v h in
@@ -32,7 +32,7 @@ module _ (graph : List (List ℕ)) (marks : List Mark) (stack : List Part) (soun
 
 -- ---- an edge that was followed
 
-pub stays : (graph : List (List ℕ)) (old new : List Mark) (gs : List Part) → StaySeen old new → AllStand graph old gs → AllStand graph new gs
+pub stays : (graph : List (List ℕ)) (old new : List Mark) (gs : List NodeGroup) → StaySeen old new → AllStand graph old gs → AllStand graph new gs
 stays graph old new [] seen all = tt
 stays graph old new (g ∷ gs) seen all = (
   record {
@@ -46,12 +46,12 @@ stays graph old new (g ∷ gs) seen all = (
   stays graph old new gs seen all.1,
 )
 
-abbrev pub without : Part → List ℕ → Bool → Part
+abbrev pub without : NodeGroup → List ℕ → Bool → NodeGroup
 without g es c = record { nodes = g.nodes; edges = es; cyclic = c }
 
-pub followed : (graph : List (List ℕ)) (old new : List Mark) (g : Part) (gs : List Part) (es : List ℕ) (w : ℕ) (c : Bool) → g.edges ≡ es ++ (w ∷ []) → StaySeen old new
-    → (g.cyclic ≡ true → c ≡ true) → (c ≡ true → (x : ℕ) → Contains g.nodes x → Reaches graph x x) → (c ≡ false → g.cyclic ≡ false) → IsPast new (without g es c) gs w
-    → Stands graph old g gs → Stands graph new (without g es c) gs
+pub followed : (graph : List (List ℕ)) (old new : List Mark) (g : NodeGroup) (gs : List NodeGroup) (es : List ℕ) (w : ℕ) (c : Bool) → g.edges ≡ es ++ (w ∷ []) → StaySeen old new
+    → (g.cyclic ≡ true → c ≡ true) → (c ≡ true → (x : ℕ) → Contains g.nodes x → ReachesNode graph x x) → (c ≡ false → g.cyclic ≡ false) → IsPast new (without g es c) gs w
+    → StandsOnOthers graph old g gs → StandsOnOthers graph new (without g es c) gs
 followed graph old new g gs es w c cut seen on around single here s = record {
   source = λ x h. s.source x (contains_along (es ++ (w ∷ [])) g.edges x (sym cut) (Contains-append_left es (w ∷ []) x h));
   past = λ v x h e. elim (s.past v x h e) [ inl k ↦ past x (before_last es w x (contains_along g.edges (es ++ (w ∷ [])) x cut k)) | inr p ↦ inr (record { seen = seen x p.seen; upper = p.upper; own = λ k. on (p.own k) }) ];
@@ -66,12 +66,12 @@ followed graph old new g gs es w c cut seen on around single here s = record {
     past x (inr e) = inr (subst (IsPast new (without g es c) gs) e here)
 
 -- the source of the last edge
-pub last_source : (graph : List (List ℕ)) (marks : List Mark) (g : Part) (gs : List Part) (es : List ℕ) (w : ℕ) → g.edges ≡ es ++ (w ∷ []) → Stands graph marks g gs → (v : ℕ) × Contains g.nodes v × IsEdge graph v w
+pub last_source : (graph : List (List ℕ)) (marks : List Mark) (g : NodeGroup) (gs : List NodeGroup) (es : List ℕ) (w : ℕ) → g.edges ≡ es ++ (w ∷ []) → StandsOnOthers graph marks g gs → (v : ℕ) × Contains g.nodes v × IsEdge graph v w
 last_source graph marks g gs es w cut s = s.source w (contains_along (es ++ (w ∷ [])) g.edges w (sym cut) (Contains-push es w))
 
 -- to a node that is done
-pub skipped : (graph : List (List ℕ)) (marks : List Mark) (g : Part) (gs : List Part) (es : List ℕ) (w : ℕ) (d : Bool) → g.edges ≡ es ++ (w ∷ []) → mark_at marks w ≡ mark.Done d
-    → IsSound graph marks (g ∷ gs) → IsSound graph marks (without g es g.cyclic ∷ gs)
+pub skipped : (graph : List (List ℕ)) (marks : List Mark) (g : NodeGroup) (gs : List NodeGroup) (es : List ℕ) (w : ℕ) (d : Bool) → g.edges ≡ es ++ (w ∷ []) → mark_at marks w ≡ mark.Done d
+    → IsSearchSound graph marks (g ∷ gs) → IsSearchSound graph marks (without g es g.cyclic ∷ gs)
 skipped graph marks g gs es w d cut is s = record {
   counts = s.counts;
   stand = (followed graph marks marks g gs es w g.cyclic cut (λ v h. h) (λ e. e) s.stand.0.around (λ e. e) here s.stand.0, s.stand.1);
@@ -90,8 +90,8 @@ skipped graph marks g gs es w d cut is s = record {
     }
 
 -- to a node of the same group
-pub circled : (graph : List (List ℕ)) (marks : List Mark) (g : Part) (gs : List Part) (es : List ℕ) (w : ℕ) → g.edges ≡ es ++ (w ∷ []) → Contains g.nodes w
-    → IsSound graph marks (g ∷ gs) → IsSound graph marks (without g es true ∷ gs)
+pub circled : (graph : List (List ℕ)) (marks : List Mark) (g : NodeGroup) (gs : List NodeGroup) (es : List ℕ) (w : ℕ) → g.edges ≡ es ++ (w ∷ []) → Contains g.nodes w
+    → IsSearchSound graph marks (g ∷ gs) → IsSearchSound graph marks (without g es true ∷ gs)
 circled graph marks g gs es w cut in_g s = record {
   counts = s.counts;
   stand = (followed graph marks marks g gs es w true cut (λ v h. h) (λ e. refl) (λ e x h. around x h) (λ e. absurd cc) here s.stand.0, s.stand.1);
@@ -102,7 +102,7 @@ circled graph marks g gs es w cut in_g s = record {
   closed = s.closed;
 }
   where
-    around : (x : ℕ) → Contains g.nodes x → Reaches graph x x
+    around : (x : ℕ) → Contains g.nodes x → ReachesNode graph x x
     around x h =
         let v = last_source graph marks g gs es w cut s.stand.0 in
         along graph x v.0 w x (s.stand.0.leads x v.0 (Contains-append_right (nodes_of gs) g.nodes x h) v.1) v.2 (s.stand.0.leads w x (Contains-append_right (nodes_of gs) g.nodes w in_g) h)
@@ -116,12 +116,12 @@ circled graph marks g gs es w cut in_g s = record {
 
 -- ---- two groups become one
 
-abbrev pub joined : Part → Part → Part
+abbrev pub joined : NodeGroup → NodeGroup → NodeGroup
 joined g f = record { nodes = f.nodes ++ g.nodes; edges = f.edges ++ g.edges; cyclic = true }
 
 -- an edge leads from the last group to a node below it
-pub joins : (graph : List (List ℕ)) (marks : List Mark) (g f : Part) (gs : List Part) (w : ℕ) → Contains g.edges w → Contains (nodes_of (f ∷ gs)) w
-    → IsSound graph marks (g ∷ (f ∷ gs)) → IsSound graph marks (joined g f ∷ gs)
+pub joins : (graph : List (List ℕ)) (marks : List Mark) (g f : NodeGroup) (gs : List NodeGroup) (w : ℕ) → Contains g.edges w → Contains (nodes_of (f ∷ gs)) w
+    → IsSearchSound graph marks (g ∷ (f ∷ gs)) → IsSearchSound graph marks (joined g f ∷ gs)
 joins graph marks g f gs w pending below s = record {
   counts = s.counts;
   stand = (record { source = source; past = past; leads = λ x y h k. inr (reaches x y h k); around = λ e x h. reaches x x (Contains-append_right (nodes_of gs) (f.nodes ++ g.nodes) x h) h; single = λ e. absurd cc; apart = apart }, s.stand.1.1);
@@ -135,10 +135,10 @@ joins graph marks g f gs w pending below s = record {
     same : (nodes_of gs ++ f.nodes) ++ g.nodes ≡ nodes_of gs ++ (f.nodes ++ g.nodes)
     same = append_assoc (nodes_of gs) f.nodes g.nodes
 
-    upper : Stands graph marks g (f ∷ gs)
+    upper : StandsOnOthers graph marks g (f ∷ gs)
     upper = s.stand.0
 
-    lower : Stands graph marks f gs
+    lower : StandsOnOthers graph marks f gs
     lower = s.stand.1.0
 
     source : (x : ℕ) → Contains (f.edges ++ g.edges) x → (v : ℕ) × Contains (f.nodes ++ g.nodes) v × IsEdge graph v x
@@ -163,13 +163,13 @@ joins graph marks g f gs w pending below s = record {
         go (inl k) = low (lower.past v x k e)
         go (inr k) = high (upper.past v x k e)
 
-    reaches : (x y : ℕ) → Contains (nodes_of gs ++ (f.nodes ++ g.nodes)) x → Contains (f.nodes ++ g.nodes) y → Reaches graph x y
+    reaches : (x y : ℕ) → Contains (nodes_of gs ++ (f.nodes ++ g.nodes)) x → Contains (f.nodes ++ g.nodes) y → ReachesNode graph x y
     reaches x y h k = along graph x v.0 w y (upper.leads x v.0 (contains_along (nodes_of gs ++ (f.nodes ++ g.nodes)) ((nodes_of gs ++ f.nodes) ++ g.nodes) x (sym same) h) v.1) v.2 (go (Contains-append_cases f.nodes g.nodes y k))
       where
         v : (v : ℕ) × Contains g.nodes v × IsEdge graph v w
         v = upper.source w pending
 
-        go : Contains f.nodes y ⊎ Contains g.nodes y → Leads graph w y
+        go : Contains f.nodes y ⊎ Contains g.nodes y → IsOnward graph w y
         go (inl i) = lower.leads w y below i
         go (inr i) = upper.leads w y (Contains-append_left (nodes_of gs ++ f.nodes) g.nodes w below) i
 
@@ -182,14 +182,14 @@ joins graph marks g f gs w pending below s = record {
 
 -- ---- a fresh node is entered
 
-abbrev pub entry : List (List ℕ) → ℕ → Part
+abbrev pub entry : List (List ℕ) → ℕ → NodeGroup
 entry graph w = record { nodes = w ∷ []; edges = slice_index_or graph w []; cyclic = false }
 
-abbrev pub entered_marks : List Mark → List Part → ℕ → List Mark
+abbrev pub entered_marks : List Mark → List NodeGroup → ℕ → List Mark
 entered_marks marks below w = set marks w (mark.Open (length (nodes_of below)))
 
-pub enters : (graph : List (List ℕ)) (marks : List Mark) (old below : List Part) (w : ℕ) → IsSound graph marks old → nodes_of old ≡ nodes_of below → mark_at marks w ≡ mark.Fresh → w < length graph
-    → AllStand graph (entered_marks marks below w) below → ((x : ℕ) → Contains (nodes_of below) x → Reaches graph x w) → IsSound graph (entered_marks marks below w) (entry graph w ∷ below)
+pub enters : (graph : List (List ℕ)) (marks : List Mark) (old below : List NodeGroup) (w : ℕ) → IsSearchSound graph marks old → nodes_of old ≡ nodes_of below → mark_at marks w ≡ mark.Fresh → w < length graph
+    → AllStand graph (entered_marks marks below w) below → ((x : ℕ) → Contains (nodes_of below) x → ReachesNode graph x w) → IsSearchSound graph (entered_marks marks below w) (entry graph w ∷ below)
 enters graph marks old below w s same fresh is_node all reach = record {
   counts = length-set marks w (mark.Open (length (nodes_of below))) ∙ s.counts;
   stand = (
@@ -219,11 +219,11 @@ enters graph marks old below w s same fresh is_node all reach = record {
     now : List Mark
     now = entered_marks marks below w
 
-    leads : (x y : ℕ) → Contains (nodes_of below ++ (w ∷ [])) x → Contains (w ∷ []) y → Leads graph x y
+    leads : (x y : ℕ) → Contains (nodes_of below ++ (w ∷ [])) x → Contains (w ∷ []) y → IsOnward graph x y
     leads x y h k = go (before_last (nodes_of below) w x h)
       where
-        go : Contains (nodes_of below) x ⊎ (w ≡ x) → Leads graph x y
-        go (inl i) = inr (subst (Reaches graph x) (one_contains w y k) (reach x i))
+        go : Contains (nodes_of below) x ⊎ (w ≡ x) → IsOnward graph x y
+        go (inl i) = inr (subst (ReachesNode graph x) (one_contains w y k) (reach x i))
         go (inr e) = inl (sym e ∙ one_contains w y k)
 
     done_after : (v : ℕ) (c : Bool) → mark_at marks v ≡ mark.Done c → mark_at (entered_marks marks below w) v ≡ mark.Done c
@@ -269,8 +269,8 @@ enters graph marks old below w s same fresh is_node all reach = record {
             (omega arith, get_or_append_left (nodes_of below) (w ∷ []) 0 p lt ∙ k.1)
 
 -- from the last group
-pub enters_from : (graph : List (List ℕ)) (marks : List Mark) (g : Part) (gs : List Part) (es : List ℕ) (w : ℕ) → g.edges ≡ es ++ (w ∷ []) → mark_at marks w ≡ mark.Fresh → w < length graph
-    → IsSound graph marks (g ∷ gs) → IsSound graph (entered_marks marks (without g es g.cyclic ∷ gs) w) (entry graph w ∷ (without g es g.cyclic ∷ gs))
+pub enters_from : (graph : List (List ℕ)) (marks : List Mark) (g : NodeGroup) (gs : List NodeGroup) (es : List ℕ) (w : ℕ) → g.edges ≡ es ++ (w ∷ []) → mark_at marks w ≡ mark.Fresh → w < length graph
+    → IsSearchSound graph marks (g ∷ gs) → IsSearchSound graph (entered_marks marks (without g es g.cyclic ∷ gs) w) (entry graph w ∷ (without g es g.cyclic ∷ gs))
 enters_from graph marks g gs es w cut fresh is_node s = enters graph marks (g ∷ gs) (without g es g.cyclic ∷ gs) w s refl fresh is_node
     (followed graph marks (entered_marks marks (without g es g.cyclic ∷ gs) w) g gs es w g.cyclic cut seen (λ e. e) s.stand.0.around (λ e. e) here s.stand.0, stays graph marks (entered_marks marks (without g es g.cyclic ∷ gs) w) gs seen s.stand.1)
     reach
@@ -291,9 +291,9 @@ enters_from graph marks g gs es w cut fresh is_node s = enters graph marks (g �
       own = λ h. absurd (not_fresh graph marks (g ∷ gs) s w (Contains-append_right (nodes_of gs) g.nodes w h) fresh);
     }
 
-    reach : (x : ℕ) → Contains (nodes_of gs ++ g.nodes) x → Reaches graph x w
+    reach : (x : ℕ) → Contains (nodes_of gs ++ g.nodes) x → ReachesNode graph x w
     reach x h = let v = last_source graph marks g gs es w cut s.stand.0 in along graph x v.0 w w (s.stand.0.leads x v.0 h v.1) v.2 (inl refl)
 
 -- where nothing is open
-pub enters_first : (graph : List (List ℕ)) (marks : List Mark) (w : ℕ) → mark_at marks w ≡ mark.Fresh → w < length graph → IsSound graph marks [] → IsSound graph (entered_marks marks [] w) (entry graph w ∷ [])
+pub enters_first : (graph : List (List ℕ)) (marks : List Mark) (w : ℕ) → mark_at marks w ≡ mark.Fresh → w < length graph → IsSearchSound graph marks [] → IsSearchSound graph (entered_marks marks [] w) (entry graph w ∷ [])
 enters_first graph marks w fresh is_node s = enters graph marks [] [] w s refl fresh is_node tt (λ x h. absurd (contains_none x h))

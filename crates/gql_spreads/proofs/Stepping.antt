@@ -8,14 +8,14 @@ use Rattle.gql_spreads.specs.declared.search.Mark.TheVariants as mark
 use Rattle.gql_spreads.specs.declared.search.Group.{Group}
 use Rattle.gql_spreads.specs.declared.search.Search.{Search}
 use Rattle.gql_spreads.specs.Graph.{IsGraph, AreCycles}
-use Rattle.gql_spreads.specs.Search.{group_at, group_on, mark_at, StaySeen, done_all, Keeps, IsStep, is_cyclic}
+use Rattle.gql_spreads.specs.Search.{group_at, group_on, mark_at, StaySeen, done_all, KeepsStack, IsStep, is_cyclic}
 use Rattle.gql_spreads.proofs.Marks.{set_seen, fresh_open}
 use Rattle.gql_spreads.proofs.Kept.{Top, top, group_is, own_marked, own_begins, left, Pending, pending, pending_is, pending_node, skips, circles, two_groups, swallows, opens, last_at, begins, begun_seen, answers}
 
 pub mark_is : (marks : List Mark) (v : ℕ) (x m : Mark) → v < length marks → x ≡ get_or marks v x → x ≡ m → mark_at marks v ≡ m
 mark_is marks v x m within at is = get_or_default marks v mark.Fresh x within ∙ sym at ∙ is
 
-module _ (graph : List (List ℕ)) (s : Search) (group : Group) (n : ℕ) (some : 0 < vec_len s.groups) (keeps : Keeps graph s) (count : n ≡ vec_len s.groups) (at : group ≡ get_or s.groups.items (n - 1) group) where
+module _ (graph : List (List ℕ)) (s : Search) (group : Group) (n : ℕ) (some : 0 < vec_len s.groups) (keeps : KeepsStack graph s) (count : n ≡ vec_len s.groups) (at : group ≡ get_or s.groups.items (n - 1) group) where
   k : Top graph s
   k = top graph s (subst (λ (m : ℕ). 0 < m) s.groups.ok.0 some) keeps
 
@@ -94,9 +94,9 @@ module _ (graph : List (List ℕ)) (s : Search) (group : Group) (n : ℕ) (some 
 -- ---- a root
 
 abbrev pub AtRoot : List (List ℕ) → ℕ → Search → Search → Type 0
-AtRoot graph root s t = Keeps graph t × StaySeen s.marks.items t.marks.items × (mark_at t.marks.items root ≡ mark.Fresh → ⊥)
+AtRoot graph root s t = KeepsStack graph t × StaySeen s.marks.items t.marks.items × (mark_at t.marks.items root ≡ mark.Fresh → ⊥)
 
-pub root_fresh : (graph : List (List ℕ)) (s t : Search) (root : ℕ) (x : Mark) → Keeps graph s → s.groups.items ≡ [] → root < length graph → x ≡ get_or s.marks.items root x → x ≡ mark.Fresh
+pub root_fresh : (graph : List (List ℕ)) (s t : Search) (root : ℕ) (x : Mark) → KeepsStack graph s → s.groups.items ≡ [] → root < length graph → x ≡ get_or s.marks.items root x → x ≡ mark.Fresh
     → t.marks.items ≡ set s.marks.items root (mark.Open (vec_len s.nodes)) → t.nodes.items ≡ s.nodes.items ++ (root ∷ []) → t.edges.items ≡ s.edges.items ++ slice_index_or graph root []
     → t.groups.items ≡ s.groups.items ++ (group_at (vec_len s.nodes) (vec_len s.edges) false ∷ []) → AtRoot graph root s t
 root_fresh graph s t root x keeps closed is_node at fresh marks nodes edges groups = (
@@ -109,7 +109,7 @@ root_fresh graph s t root x keeps closed is_node at fresh marks nodes edges grou
     within : root < length s.marks.items
     within = subst (λ (e : ℕ). root < e) (sym keeps.sound.counts) is_node
 
-pub root_seen : (graph : List (List ℕ)) (s : Search) (root : ℕ) (x : Mark) → Keeps graph s → root < length graph → x ≡ get_or s.marks.items root x → (x ≡ mark.Fresh → ⊥) → AtRoot graph root s s
+pub root_seen : (graph : List (List ℕ)) (s : Search) (root : ℕ) (x : Mark) → KeepsStack graph s → root < length graph → x ≡ get_or s.marks.items root x → (x ≡ mark.Fresh → ⊥) → AtRoot graph root s s
 root_seen graph s root x keeps is_node at seen = (keeps, λ v h. h, λ e. seen (at ∙ get_or_default s.marks.items root x mark.Fresh within ∙ e))
   where
     within : root < length s.marks.items
@@ -126,7 +126,7 @@ explored_more old new root v seen here before within now = elim (cases_lt v root
 
 -- ---- the answer
 
-pub answered : (graph : List (List ℕ)) (s : Search) (root i : ℕ) (flags : List Bool) (items : List Mark) → Keeps graph s × (s.groups.items ≡ []) × ((v : ℕ) → v < root → mark_at s.marks.items v ≡ mark.Fresh → ⊥)
+pub answered : (graph : List (List ℕ)) (s : Search) (root i : ℕ) (flags : List Bool) (items : List Mark) → KeepsStack graph s × (s.groups.items ≡ []) × ((v : ℕ) → v < root → mark_at s.marks.items v ≡ mark.Fresh → ⊥)
     → length graph ≤ root → items ≡ s.marks.items → length items ≤ i → flags ≡ map is_cyclic (take i items) → AreCycles graph flags
 answered graph s root i flags items (keeps, closed, seen) all same over are =
     subst (λ (q : List Bool). AreCycles graph q) (sym (are ∙ ap (map is_cyclic) (take_all i items over ∙ same))) (answers graph s keeps closed (λ v h. seen v (omega arith)))

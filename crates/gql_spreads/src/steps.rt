@@ -2,7 +2,7 @@ ghost use Rattle.std.specs.Prelude.{◌≡◌, ℕ, ◌+◌, ◌-◌, ◌<◌, �
 ghost use Rattle.gql_spreads.specs.declared.search.Mark.TheVariants as mark;
 ghost use Rattle.gql_spreads.specs.declared.search.Group.{Group};
 ghost use Rattle.gql_spreads.specs.Graph.{IsGraph};
-ghost use Rattle.gql_spreads.specs.Search.{done_all, group_at, Keeps, IsBlank, IsStep, IsExplored};
+ghost use Rattle.gql_spreads.specs.Search.{done_all, group_at, KeepsStack, IsBlank, IsStep, IsExplored};
 
 use crate::search::{Group, Mark, Search};
 use flow_base::Memory;
@@ -30,7 +30,7 @@ pub fn blank(alloc: Global, count: usize) -> Result<Search, Memory>
 pub fn explore(search: &mut Search, graph: &[Items<usize>], root: usize) -> Result<(), Memory>
     requires root { root < length graph.now }
     requires graph { IsGraph graph.now }
-    requires keeps { Keeps graph.now search.old }
+    requires keeps { KeepsStack graph.now search.old }
     requires closed { search.old.groups.items ≡ [] }
     ensures { OnOk result (IsExplored graph.now root search.old search.new) }
 {
@@ -47,7 +47,7 @@ pub fn explore(search: &mut Search, graph: &[Items<usize>], root: usize) -> Resu
 fn step(search: &mut Search, graph: &[Items<usize>]) -> Result<(), Memory>
     requires some { 0 < vec_len search.old.groups }
     requires graph { IsGraph graph.now }
-    requires keeps { Keeps graph.now search.old }
+    requires keeps { KeepsStack graph.now search.old }
     ensures { OnOk result (IsStep graph.now search.old search.new) }
 {
     let group = search.groups[search.groups.len() - 1];

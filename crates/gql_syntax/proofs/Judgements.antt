@@ -18,7 +18,7 @@ use Rattle.gql_parser.specs.Reading.{all}
 use Rattle.gql_parser.specs.Faults.{IsText, IsViable, MayBegin, Explains, placed}
 use Rattle.gql_parser.specs.Judging.{RefusedLast, Judged}
 use Rattle.gql_parser.proofs.Explained.{all_exact, text_is, settled_ended, settled_refused, refused_before, whole_ended, read_begins, stopped_begins}
-use Rattle.gql_syntax.specs.Readings.{IsWhole, IsCut, Refuses}
+use Rattle.gql_syntax.specs.Readings.{IsWhole, IsCut, HasFault}
 
 -- what is left is a part of the tokens
 pub left_within : (ts : List Token) (k : Refusal) (rest : List Token) → all strict ts ≡ Err (k, rest) → length rest ≤ length ts
@@ -113,7 +113,7 @@ module _ (text : List ℕ) (ts : List Token) (places : List ℕ) (kinds : List K
 viable : (text : List ℕ) (d : Document) → IsText d text → IsViable text
 viable text d (ts, lexes, g) = ([], d, (ts, subst (Lexes ts) (sym (append-nil text)) lexes, g))
 
-pub fault_refuses : (text : List ℕ) (fault : GqlFault) → Explains text fault → Refuses text fault
+pub fault_refuses : (text : List ℕ) (fault : GqlFault) → Explains text fault → HasFault text fault
 fault_refuses text faults.Memory h = tt
 fault_refuses text faults.Ended h = h.1
 fault_refuses text (faults.Unexpected place) h = λ d is. h.0 (viable text d is)
@@ -121,7 +121,7 @@ fault_refuses text (faults.Deep place) h = λ d is. h.0 (viable text d is)
 
 -- ---- the answer, clause by clause
 
-pub judged_refuses : (text : List ℕ) (r : Result Document GqlFault) → Judged text r → IfErr r (λ fault. Refuses text fault)
+pub judged_refuses : (text : List ℕ) (r : Result Document GqlFault) → Judged text r → IfErr r (λ fault. HasFault text fault)
 judged_refuses text (Ok d) h = tt
 judged_refuses text (Err fault) h = fault_refuses text fault h
 

@@ -4,7 +4,7 @@ use Rattle.std.proofs.lemmas.List.{append-nil}
 use Rattle.token_read.specs.Exact.{AreReal, Viable}
 use Rattle.token_read.proofs.Relax.{Relaxes}
 use Rattle.gql_tokens.specs.declared.scanner.Class.{Class}
-use Rattle.gql_tokens.specs.Lexical.{Token, Follows, IsLexeme, IsIgnored, Leads, here, skip, token, Lexes, IsReal, token_of}
+use Rattle.gql_tokens.specs.Lexical.{Token, MayFollow, IsLexeme, IsIgnored, Leads, here, skip, token, Lexes, IsReal, token_of}
 use Rattle.gql_tokens.specs.Lexing.{NoneIgnored, At, TokenAt}
 use Rattle.gql_tokens.proofs.Lexemes.{lexeme_once}
 use Rattle.gql_tokens.proofs.Leading.{Opened, done, skips, takes, opened, ignored_once, ignored_no_lexeme}

@@ -31,6 +31,6 @@ pub record IsCut (text : List ℕ) (tokens : List Token) (places : List ℕ) (ki
   pub ends : EndsCut text tokens (slice_index places (length tokens)) kinds
 
 -- a text with a fault is no document
-abbrev pub Refuses : List ℕ → GqlFault → Type 0
-Refuses text faults.Memory = Unit {0}
-Refuses text fault = (d : Document) → IsText d text → ⊥
+abbrev pub HasFault : List ℕ → GqlFault → Type 0
+HasFault text faults.Memory = Unit {0}
+HasFault text fault = (d : Document) → IsText d text → ⊥

@@ -2,7 +2,7 @@ ghost use Rattle.std.specs.Prelude.{IfOk, IfErr, IfSome};
 ghost use Rattle.gql_tokens.specs.Lexical.{Lexes};
 ghost use Rattle.gql_parser.specs.Faults.{IsText, Explains};
 ghost use Rattle.gql_parser.specs.Judging.{Judged};
-ghost use Rattle.gql_syntax.specs.Readings.{Refuses};
+ghost use Rattle.gql_syntax.specs.Readings.{HasFault};
 
 use crate::judging::{Reading, judge, read};
 use flow_base::{Memory, Text};
@@ -56,7 +56,7 @@ fn judged(alloc: Global, source: &str) -> Result<Document, GqlFault>
 /// fault is read a second time, for its place.
 pub fn parse(alloc: Global, text: &Text) -> Result<Document, GqlFault>
     ensures document { IfOk result (λ d. IsText d text.now) }
-    ensures refused { IfErr result (λ fault. Refuses text.now fault) }
+    ensures refused { IfErr result (λ fault. HasFault text.now fault) }
     ensures fault { IfErr result (λ fault. Explains text.now fault) }
 {
     let source = text.as_str();

@@ -17,9 +17,9 @@ use Rattle.gql_tokens.specs.declared.scanner.Scan.{Scan}
 use Rattle.gql_tokens.specs.declared.scanner.Scan.TheVariants as sc
 use Rattle.token_read.specs.Exact.{AreReal}
 use Rattle.token_read.specs.Texts.{Among, Settled, Growing}
-use Rattle.gql_tokens.specs.Lexical.{Token, Every, Follows, IsString, IsBlock, IsLexeme, IsIgnored, blank, byte_order_mark, comment, Leads, here, skip, token, Lexes, IsReal, token_of}
+use Rattle.gql_tokens.specs.Lexical.{Token, Every, MayFollow, IsString, IsBlock, IsLexeme, IsIgnored, blank, byte_order_mark, comment, Leads, here, skip, token, Lexes, IsReal, token_of}
 use Rattle.gql_tokens.specs.Lexical as grammar
-use Rattle.gql_tokens.specs.Scanning.{start, scan_by, scan, token_at, Completes, pending, Left, QuotesLeft}
+use Rattle.gql_tokens.specs.Scanning.{start, scan_by, scan, token_at, CompletesNumber, pending, Left, QuotesLeft}
 use Rattle.gql_tokens.specs.Ends.{growths}
 use Rattle.gql_tokens.proofs.Moves.{clear_on}
 use Rattle.gql_tokens.proofs.Scans.{heads_are, tails_are, scan_bad, scan_end, end_scan}
@@ -86,7 +86,7 @@ block_ends q.Slash = (32 ∷ (34 ∷ (34 ∷ (34 ∷ []))), clear_on q.Slash 32 
 block_ends q.SlashOne = (32 ∷ (34 ∷ (34 ∷ (34 ∷ []))), clear_on q.SlashOne 32 (34 ∷ (34 ∷ (34 ∷ []))) refl spaced)
 block_ends q.SlashTwo = (32 ∷ (34 ∷ (34 ∷ (34 ∷ []))), clear_on q.SlashTwo 32 (34 ∷ (34 ∷ (34 ∷ []))) refl spaced)
 
-number_ends : (part : Digit) → (more : List ℕ) × Completes part more
+number_ends : (part : Digit) → (more : List ℕ) × CompletesNumber part more
 number_ends d.Minus = (48 ∷ [], (d.Zero, refl, refl))
 number_ends d.Zero = ([], refl)
 number_ends d.Whole = ([], refl)
@@ -164,13 +164,13 @@ pub record Next (b : ℕ) (bs w : List ℕ) (all : List Token) : Type 0 where
   pub after : List Token
   pub parts : bs ++ w ≡ others ++ rest
   pub is : IsLexeme class (b ∷ others)
-  pub follows : Follows class rest
+  pub follows : MayFollow class rest
   pub tokens : all ≡ token_of class (b ∷ others) ∷ after
 
 pub next_is : (b : ℕ) (bs w : List ℕ) (all : List Token) → NotIgnored b bs → Lexes all ((b ∷ bs) ++ w) → Next b bs w all
 next_is b bs w all n l = go (opened l)
   where
-    taken : (ts : List Token) (class : Class) (a v : List ℕ) → all ≡ token_of class a ∷ ts → (b ∷ bs) ++ w ≡ a ++ v → IsLexeme class a → Follows class v → Next b bs w all
+    taken : (ts : List Token) (class : Class) (a v : List ℕ) → all ≡ token_of class a ∷ ts → (b ∷ bs) ++ w ≡ a ++ v → IsLexeme class a → MayFollow class v → Next b bs w all
     taken ts class [] v e cut is follows = absurd (no_lexeme class is)
     taken ts class (x ∷ a) v e cut is follows =
         let same : x ≡ b = sym (heads_are b x (bs ++ w) (a ++ v) cut) in
@@ -226,7 +226,7 @@ growing init bytes b bs t l e = record { only = λ all w lexes. only all w lexes
 
 -- ---- bytes that begin nothing
 
-pub bad_is : (b : ℕ) (bs : List ℕ) → token_at b bs ≡ sc.Bad → (class : Class) (others rest w : List ℕ) → bs ++ w ≡ others ++ rest → IsLexeme class (b ∷ others) → Follows class rest → ⊥
+pub bad_is : (b : ℕ) (bs : List ℕ) → token_at b bs ≡ sc.Bad → (class : Class) (others rest w : List ℕ) → bs ++ w ≡ others ++ rest → IsLexeme class (b ∷ others) → MayFollow class rest → ⊥
 unfolding token_at
 bad_is b bs e class others rest w cut is follows = go (start b) (starts b) e
   where
@@ -264,7 +264,7 @@ settled_ignored ts bytes b bs l is = record {
 }
 
 -- a token that nothing lengthens
-pub settled_token : (ts : List Token) (bytes : List ℕ) (b : ℕ) (bs : List ℕ) (class : Class) → Leads ts bytes (b ∷ bs) → IsLexeme class (b ∷ bs) → ((w : List ℕ) → Follows class w)
+pub settled_token : (ts : List Token) (bytes : List ℕ) (b : ℕ) (bs : List ℕ) (class : Class) → Leads ts bytes (b ∷ bs) → IsLexeme class (b ∷ bs) → ((w : List ℕ) → MayFollow class w)
     → Settled IsReal Lexes bytes (ts ++ (token_of class (b ∷ bs) ∷ []))
 settled_token ts bytes b bs class l is follows = record {
   only = λ all w lexes. only all w lexes;

@@ -7,7 +7,7 @@ use Rattle.gql_tokens.specs.declared.scanner.Move.{Move}
 use Rattle.gql_tokens.specs.declared.scanner.Move.TheVariants as m
 use Rattle.gql_tokens.specs.declared.scanner.Scan.{Scan}
 use Rattle.gql_tokens.specs.declared.scanner.Scan.TheVariants as sc
-use Rattle.gql_tokens.specs.Lexical.{Follows, IsLexeme}
+use Rattle.gql_tokens.specs.Lexical.{MayFollow, IsLexeme}
 use Rattle.gql_tokens.specs.Scanning.{start, scan_by, scan, token_at, Left}
 use Rattle.gql_tokens.proofs.Scans.{scan_found, scan_done, found_is, end_scan, scan_end, heads_are, tails_are}
 use Rattle.gql_tokens.proofs.Lexemes.{Starts, starts, no_lexeme}
@@ -20,8 +20,8 @@ pub record Front (bytes : List ℕ) (class : Class) (n : ℕ) : Type 0 where
   pub parts : bytes ≡ used ++ rest
   pub size : n ≡ length used
   pub is : IsLexeme class used
-  pub follows : Follows class rest
-  pub done : rest ≡ [] → (w : List ℕ) → Follows class w
+  pub follows : MayFollow class rest
+  pub done : rest ≡ [] → (w : List ℕ) → MayFollow class w
 
 pub found_front : (b : ℕ) (bs : List ℕ) (class : Class) (n : ℕ) → token_at b bs ≡ sc.Found class n → Front (b ∷ bs) class n
 unfolding token_at
@@ -48,8 +48,8 @@ found_front b bs class n e = go (start b) (starts b) e
           parts = refl;
           size = sym same.1;
           is = subst (λ (x : Class). IsLexeme x (b ∷ [])) same.0 is.1;
-          follows = subst (λ (x : Class). Follows x bs) same.0 (is.2 bs);
-          done = λ none w. subst (λ (x : Class). Follows x w) same.0 (is.2 w);
+          follows = subst (λ (x : Class). MayFollow x bs) same.0 (is.2 bs);
+          done = λ none w. subst (λ (x : Class). MayFollow x w) same.0 (is.2 w);
         }
     go (m.Stop found) is e = absurd is
     go m.Bad is e = absurd cc
@@ -61,7 +61,7 @@ end_is_whole b bs t class e l =
     subst (λ (q : List ℕ). IsLexeme class (b ∷ q)) (append-nil bs) ((going b cut.first cut.begins).1 class (bs ++ []) (scan_end bs cut.first 1 t cut.ends class [] l))
 
 -- a token that begins bytes of which all were read is all of them
-pub whole_is_end : (b : ℕ) (bs : List ℕ) (t : State) (class : Class) (a w : List ℕ) → token_at b bs ≡ sc.End t → IsLexeme class a → Follows class w → b ∷ bs ≡ a ++ w → Left t class []
+pub whole_is_end : (b : ℕ) (bs : List ℕ) (t : State) (class : Class) (a w : List ℕ) → token_at b bs ≡ sc.End t → IsLexeme class a → MayFollow class w → b ∷ bs ≡ a ++ w → Left t class []
 whole_is_end b bs t class [] w e is follows parts = absurd (no_lexeme class is)
 whole_is_end b bs t class (x ∷ a) w e is follows parts =
     let cut = cut_is b bs t e in

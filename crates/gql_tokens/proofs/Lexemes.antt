@@ -17,8 +17,8 @@ use Rattle.gql_tokens.specs.declared.scanner.Move.TheVariants as m
 use Rattle.gql_tokens.specs.declared.scanner.Scan.{Scan}
 use Rattle.gql_tokens.specs.declared.scanner.Scan.TheVariants as sc
 use Rattle.gql_tokens.specs.Numbers.{is_digit, IsNumber}
-use Rattle.gql_tokens.specs.Lexical.{mark_of, is_name_start, is_name_continue, Every, Follows, IsString, IsBlock, IsLexeme, mark, dots, name, number, empty, string, block, begins}
-use Rattle.gql_tokens.specs.Scanning.{number_start, start_other, start_by, start, scan_by, scan, token_at, Completes, Left, QuotesLeft}
+use Rattle.gql_tokens.specs.Lexical.{mark_of, is_name_start, is_name_continue, Every, MayFollow, IsString, IsBlock, IsLexeme, mark, dots, name, number, empty, string, block, begins}
+use Rattle.gql_tokens.specs.Scanning.{number_start, start_other, start_by, start, scan_by, scan, token_at, CompletesNumber, Left, QuotesLeft}
 use Rattle.gql_tokens.proofs.NumberTexts.{ReadsNumber, number_reads, reads_number}
 use Rattle.gql_tokens.proofs.Scans.{Taken, scan_found, scan_once, scan_bad, scan_end, end_scan, heads_are, tails_are}
 
@@ -101,15 +101,15 @@ number_no_name b part is h = go (or_cases (b == 45) (b == 48 || is_digit b) (num
 
 abbrev pub Starts : ℕ → Move → Type 0
 Starts b (m.Go s) = ((class : Class) (a : List ℕ) → IsLexeme class (b ∷ a) → Left s class a) × ((class : Class) (a : List ℕ) → Left s class a → IsLexeme class (b ∷ a))
-Starts b (m.Done found) = ((class : Class) (a : List ℕ) → IsLexeme class (b ∷ a) → (class ≡ found) × (a ≡ [])) × IsLexeme found (b ∷ []) × ((w : List ℕ) → Follows found w)
+Starts b (m.Done found) = ((class : Class) (a : List ℕ) → IsLexeme class (b ∷ a) → (class ≡ found) × (a ≡ [])) × IsLexeme found (b ∷ []) × ((w : List ℕ) → MayFollow found w)
 Starts b (m.Stop found) = ⊥
 Starts b m.Bad = (class : Class) (a : List ℕ) → IsLexeme class (b ∷ a) → ⊥
 
 -- how a number begins
-reads_as : (b : ℕ) (a : List ℕ) → IsNumber (b ∷ a) → (part : Digit) × (number_start b ≡ Some part) × Completes part a
+reads_as : (b : ℕ) (a : List ℕ) → IsNumber (b ∷ a) → (part : Digit) × (number_start b ≡ Some part) × CompletesNumber part a
 reads_as b a is =
     let r = number_reads (b ∷ a) is in
-    (r.part, ap number_start (heads_are b r.first a r.others r.parts) ∙ r.begins, subst (Completes r.part) (sym (tails_are b r.first a r.others r.parts)) r.completes)
+    (r.part, ap number_start (heads_are b r.first a r.others r.parts) ∙ r.begins, subst (CompletesNumber r.part) (sym (tails_are b r.first a r.others r.parts)) r.completes)
 
 mark_starts : (b : ℕ) (kind : Kind) → mark_of b ≡ Some kind → Starts b (m.Done (c.Mark kind))
 mark_starts b kind is = (λ class a l. back b class a is l, mark kind b is, λ w. tt)
@@ -126,11 +126,11 @@ mark_starts b kind is = (λ class a l. back b class a is l, mark kind b is, λ w
 number_starts_here : (b : ℕ) (part : Digit) → number_start b ≡ Some part → Starts b (m.Go (st.Number part))
 number_starts_here b part is = (λ class a l. back b class a is l, λ class a l. subst (λ (x : Class). IsLexeme x (b ∷ a)) (sym l.0) (number (b ∷ a) (reads_number b a part is l.1)))
   where
-    back : (b : ℕ) (class : Class) (a : List ℕ) → number_start b ≡ Some part → IsLexeme class (b ∷ a) → (class ≡ c.Number) × Completes part a
+    back : (b : ℕ) (class : Class) (a : List ℕ) → number_start b ≡ Some part → IsLexeme class (b ∷ a) → (class ≡ c.Number) × CompletesNumber part a
     back _ _ _ is (mark other b e) = absurd (none_is other (sym (number_unmarked b part is) ∙ e))
     back _ _ _ is dots = absurd (none_is part is)
     back _ _ _ is (name b bs e every) = absurd (number_no_name b part is e)
-    back b _ a is (number _ e) = let r = reads_as b a e in (refl, subst (λ (x : Digit). Completes x a) (some_is r.0 part (sym r.1 ∙ is)) r.2)
+    back b _ a is (number _ e) = let r = reads_as b a e in (refl, subst (λ (x : Digit). CompletesNumber x a) (some_is r.0 part (sym r.1 ∙ is)) r.2)
     back _ _ _ is empty = absurd (none_is part is)
     back _ _ _ is (string b w n e) = absurd (none_is part is)
     back _ _ _ is (block w e) = absurd (none_is part is)
@@ -244,7 +244,7 @@ no_lexeme class (number _ h) = let r = number_reads [] h in absurd (none r.first
     none : (x : ℕ) (xs : List ℕ) → [] ≡ x ∷ xs → ⊥
     none x xs e = cc
 
-pub lexeme_once : (x : Class) (a rest : List ℕ) (y : Class) (a' rest' : List ℕ) → IsLexeme x a → Follows x rest → IsLexeme y a' → Follows y rest' → a ++ rest ≡ a' ++ rest' → (x ≡ y) × (a ≡ a') × (rest ≡ rest')
+pub lexeme_once : (x : Class) (a rest : List ℕ) (y : Class) (a' rest' : List ℕ) → IsLexeme x a → MayFollow x rest → IsLexeme y a' → MayFollow y rest' → a ++ rest ≡ a' ++ rest' → (x ≡ y) × (a ≡ a') × (rest ≡ rest')
 lexeme_once x [] rest y a' rest' l f l' f' e = absurd (no_lexeme x l)
 lexeme_once x (b ∷ a) rest y [] rest' l f l' f' e = absurd (no_lexeme y l')
 lexeme_once x (b ∷ a) rest y (b' ∷ a') rest' l f l' f' e = go (start b) (starts b)

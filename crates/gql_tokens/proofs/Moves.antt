@@ -16,19 +16,19 @@ use Rattle.gql_tokens.specs.declared.scanner.State.TheVariants as st
 use Rattle.gql_tokens.specs.declared.scanner.Move.{Move}
 use Rattle.gql_tokens.specs.declared.scanner.Move.TheVariants as m
 use Rattle.gql_tokens.specs.Numbers.{is_digit, is_e}
-use Rattle.gql_tokens.specs.Lexical.{is_inline, is_name_start, is_name_continue, is_escape, is_hex, is_plain, is_block_char, lengthens_number, is_quote, IsString, close, plain, escape, unicode, IsBlock, Every, Stops, Follows, begins}
+use Rattle.gql_tokens.specs.Lexical.{is_inline, is_name_start, is_name_continue, is_escape, is_hex, is_plain, is_block_char, lengthens_number, is_quote, IsString, close, plain, escape, unicode, IsBlock, Every, Stops, MayFollow, begins}
 use Rattle.gql_tokens.specs.Lexical as grammar
-use Rattle.gql_tokens.specs.Scanning.{number_next, may_end, Completes, number_by, pending, plain_move, escape_move, hex_move, chars_next, on_quote, block_next, dot_move, name_move, next, Hex, QuotesLeft, Left}
+use Rattle.gql_tokens.specs.Scanning.{number_next, may_end, CompletesNumber, number_by, pending, plain_move, escape_move, hex_move, chars_next, on_quote, block_next, dot_move, name_move, next, Hex, QuotesLeft, Left}
 
 -- what a move says of the bytes that complete a token
 abbrev pub Moves : State → ℕ → Move → Type 0
 Moves s b (m.Go after) = ((class : Class) (a : List ℕ) → Left s class (b ∷ a) → Left after class a) × ((class : Class) (a : List ℕ) → Left after class a → Left s class (b ∷ a))
-    × ((class : Class) (w : List ℕ) → Left s class [] → Follows class (b ∷ w) → ⊥)
+    × ((class : Class) (w : List ℕ) → Left s class [] → MayFollow class (b ∷ w) → ⊥)
 Moves s b (m.Done found) = ((class : Class) (a : List ℕ) → Left s class (b ∷ a) → (class ≡ found) × (a ≡ [])) × Left s found (b ∷ []) × ((class : Class) → Left s class [] → ⊥)
-    × ((w : List ℕ) → Follows found w)
+    × ((w : List ℕ) → MayFollow found w)
 Moves s b (m.Stop found) = ((class : Class) (a : List ℕ) → Left s class (b ∷ a) → ⊥) × Left s found [] × ((class : Class) → Left s class [] → class ≡ found)
-    × ((w : List ℕ) → Follows found (b ∷ w))
-Moves s b m.Bad = ((class : Class) (a : List ℕ) → Left s class (b ∷ a) → ⊥) × ((class : Class) (w : List ℕ) → Left s class [] → Follows class (b ∷ w) → ⊥)
+    × ((w : List ℕ) → MayFollow found (b ∷ w))
+Moves s b m.Bad = ((class : Class) (a : List ℕ) → Left s class (b ∷ a) → ⊥) × ((class : Class) (w : List ℕ) → Left s class [] → MayFollow class (b ∷ w) → ⊥)
 
 differ : {b : Bool} → b ≡ true → b ≡ false → ⊥
 differ x y = cc
@@ -53,7 +53,7 @@ dots_moves b = cond_both (b == 46) (m.Done (c.Mark k.Dots)) m.Bad (Moves st.Dots
 
 name_moves : (b : ℕ) → Moves st.Name b (name_move b)
 name_moves b = cond_both (is_name_continue b) (m.Go st.Name) (m.Stop c.Name) (Moves st.Name b)
-    (λ is. (λ class a l. (l.0, l.1.1), λ class a l. (l.0, (is, l.1)), λ class w l f. differ is (subst (λ (x : Class). Follows x (b ∷ w)) l.0 f)))
+    (λ is. (λ class a l. (l.0, l.1.1), λ class a l. (l.0, (is, l.1)), λ class w l f. differ is (subst (λ (x : Class). MayFollow x (b ∷ w)) l.0 f)))
     (λ not. (λ class a l. differ l.1.0 not, (refl, tt), λ class l. l.0, λ w. not))
 
 -- ---- numbers
@@ -99,15 +99,15 @@ none_is x e = cc
 
 number_moves : (part : Digit) (b : ℕ) (o : Option Digit) → number_next part b ≡ o → Moves (st.Number part) b (number_by part b o)
 number_moves part b (Some next) is = (
-  λ class a l. (l.0, subst (λ (x : Digit). Completes x a) (some_is l.1.0 next (sym l.1.1 ∙ is)) l.1.2),
+  λ class a l. (l.0, subst (λ (x : Digit). CompletesNumber x a) (some_is l.1.0 next (sym l.1.1 ∙ is)) l.1.2),
   λ class a l. (l.0, (next, is, l.1)),
-  λ class w l f. differ (subst (Lengthens b) is (goes_on part b l.1)) (subst (λ (x : Class). Follows x (b ∷ w)) l.0 f),
+  λ class w l f. differ (subst (Lengthens b) is (goes_on part b l.1)) (subst (λ (x : Class). MayFollow x (b ∷ w)) l.0 f),
 )
 number_moves part b None is = cond_both (may_end part && not (lengthens_number b)) (m.Stop c.Number) m.Bad (Moves (st.Number part) b)
     (λ ends. (λ class a l. none_is l.1.0 (sym is ∙ l.1.1), (refl, (and_parts (may_end part) (not (lengthens_number b)) ends).0), λ class l. l.0, λ w. was_not (lengthens_number b) (and_parts (may_end part) (not (lengthens_number b)) ends).1))
     (λ bad. (
       λ class a l. none_is l.1.0 (sym is ∙ l.1.1),
-      λ class w l f. differ (and_from (may_end part) (not (lengthens_number b)) l.1 (not_from_false (lengthens_number b) (subst (λ (x : Class). Follows x (b ∷ w)) l.0 f))) bad,
+      λ class w l f. differ (and_from (may_end part) (not (lengthens_number b)) l.1 (not_from_false (lengthens_number b) (subst (λ (x : Class). MayFollow x (b ∷ w)) l.0 f))) bad,
     ))
   where
     was_not : (x : Bool) → not x ≡ true → x ≡ false
@@ -332,8 +332,8 @@ quotes_moves b = cond_both (b == 34) (m.Go (st.Block q.Plain)) (m.Stop c.Empty) 
     third class a (inl (e, none)) = absurd cc
     third class a (inr (e, w, cut, l)) = (e, subst IsBlock (sym (rest_is b 34 a w cut)) l)
 
-    at_end : (class : Class) (w : List ℕ) → (b == 34) ≡ true → QuotesLeft class [] → Follows class (b ∷ w) → ⊥
-    at_end class w is (inl (e, none)) f = differ is (subst (λ (x : Class). Follows x (b ∷ w)) e f)
+    at_end : (class : Class) (w : List ℕ) → (b == 34) ≡ true → QuotesLeft class [] → MayFollow class (b ∷ w) → ⊥
+    at_end class w is (inl (e, none)) f = differ is (subst (λ (x : Class). MayFollow x (b ∷ w)) e f)
     at_end class w is (inr (e, v, cut, l)) f = absurd cc
 
     not_third : (class : Class) (a : List ℕ) → (b == 34) ≡ false → QuotesLeft class (b ∷ a) → ⊥

@@ -6,7 +6,7 @@ use Rattle.gql_tokens.specs.declared.scanner.Move.{Move}
 use Rattle.gql_tokens.specs.declared.scanner.Move.TheVariants as m
 use Rattle.gql_tokens.specs.declared.scanner.Scan.{Scan}
 use Rattle.gql_tokens.specs.declared.scanner.Scan.TheVariants as sc
-use Rattle.gql_tokens.specs.Lexical.{Follows}
+use Rattle.gql_tokens.specs.Lexical.{MayFollow}
 use Rattle.gql_tokens.specs.Scanning.{next, scan_by, scan, Left}
 use Rattle.gql_tokens.proofs.Moves.{Moves, moves}
 
@@ -29,7 +29,7 @@ pub record Taken (s : State) (bytes : List ℕ) (class : Class) (n k : ℕ) : Ty
   pub parts : bytes ≡ used ++ rest
   pub size : k ≡ n + length used
   pub left : Left s class used
-  pub follows : Follows class rest
+  pub follows : MayFollow class rest
 
 pub scan_found : (bytes : List ℕ) (s : State) (n : ℕ) (class : Class) (k : ℕ) → scan s n bytes ≡ sc.Found class k → Taken s bytes class n k
 unfolding scan
@@ -42,40 +42,40 @@ scan_found (b ∷ bs) s n class k e = go (next s b) (moves s b) e (λ after h. s
         record { used = b ∷ t.used; rest = t.rest; parts = ap (λ (x : List ℕ). b ∷ x) t.parts; size = omega (arith, t.size); left = is.1 class t.used t.left; follows = t.follows }
     go (m.Done found) is e tail =
         let same = found_is found class (n + 1) k e in
-        record { used = b ∷ []; rest = bs; parts = refl; size = omega (arith, same.1); left = subst (λ (x : Class). Left s x (b ∷ [])) same.0 is.1; follows = subst (λ (x : Class). Follows x bs) same.0 (is.3 bs) }
+        record { used = b ∷ []; rest = bs; parts = refl; size = omega (arith, same.1); left = subst (λ (x : Class). Left s x (b ∷ [])) same.0 is.1; follows = subst (λ (x : Class). MayFollow x bs) same.0 (is.3 bs) }
     go (m.Stop found) is e tail =
         let same = found_is found class n k e in
-        record { used = []; rest = b ∷ bs; parts = refl; size = omega (arith, same.1); left = subst (λ (x : Class). Left s x []) same.0 is.1; follows = subst (λ (x : Class). Follows x (b ∷ bs)) same.0 (is.3 bs) }
+        record { used = []; rest = b ∷ bs; parts = refl; size = omega (arith, same.1); left = subst (λ (x : Class). Left s x []) same.0 is.1; follows = subst (λ (x : Class). MayFollow x (b ∷ bs)) same.0 (is.3 bs) }
     go m.Bad is e tail = absurd cc
 
 -- a token that reaches the end of the bytes, and that nothing lengthens
-pub scan_done : (bytes : List ℕ) (s : State) (n : ℕ) (class : Class) (k : ℕ) → scan s n bytes ≡ sc.Found class k → k ≡ n + length bytes → (w : List ℕ) → Follows class w
+pub scan_done : (bytes : List ℕ) (s : State) (n : ℕ) (class : Class) (k : ℕ) → scan s n bytes ≡ sc.Found class k → k ≡ n + length bytes → (w : List ℕ) → MayFollow class w
 unfolding scan
 scan_done [] s n class k e all w = absurd cc
 scan_done (b ∷ bs) s n class k e all w = go (next s b) (moves s b) e (λ after h. scan_done bs after (n + 1) class k h (omega arith) w)
   where
-    go : (o : Move) → Moves s b o → scan_by o n (λ after. scan after (n + 1) bs) ≡ sc.Found class k → ((after : State) → scan after (n + 1) bs ≡ sc.Found class k → Follows class w) → Follows class w
+    go : (o : Move) → Moves s b o → scan_by o n (λ after. scan after (n + 1) bs) ≡ sc.Found class k → ((after : State) → scan after (n + 1) bs ≡ sc.Found class k → MayFollow class w) → MayFollow class w
     go (m.Go after) is e tail = tail after e
-    go (m.Done found) is e tail = subst (λ (x : Class). Follows x w) (found_is found class (n + 1) k e).0 (is.3 w)
+    go (m.Done found) is e tail = subst (λ (x : Class). MayFollow x w) (found_is found class (n + 1) k e).0 (is.3 w)
     go (m.Stop found) is e tail = let same : n ≡ k = (found_is found class n k e).1 in absurd (omega arith)
     go m.Bad is e tail = absurd cc
 
 -- a token has one end
 pub scan_once : (a : List ℕ) (s : State) (x : Class) (rest : List ℕ) (y : Class) (a' rest' : List ℕ) → ((u v : Class) → Left s u [] → Left s v [] → u ≡ v)
     → ((t : State) (u v : Class) → Left t u [] → Left t v [] → u ≡ v)
-    → Left s x a → Follows x rest → Left s y a' → Follows y rest' → a ++ rest ≡ a' ++ rest' → (x ≡ y) × (a ≡ a') × (rest ≡ rest')
+    → Left s x a → MayFollow x rest → Left s y a' → MayFollow y rest' → a ++ rest ≡ a' ++ rest' → (x ≡ y) × (a ≡ a') × (rest ≡ rest')
 scan_once [] s x rest y [] rest' once all l f l' f' e = (once x y l l', refl, e)
 scan_once [] s x rest y (b ∷ a') rest' once all l f l' f' e = absurd (stops (next s b) (moves s b))
   where
     stops : (o : Move) → Moves s b o → ⊥
-    stops (m.Go after) is = is.2 x (a' ++ rest') l (subst (Follows x) e f)
+    stops (m.Go after) is = is.2 x (a' ++ rest') l (subst (MayFollow x) e f)
     stops (m.Done found) is = is.2 x l
     stops (m.Stop found) is = is.0 y a' l'
     stops m.Bad is = is.0 y a' l'
 scan_once (b ∷ a) s x rest y [] rest' once all l f l' f' e = absurd (stops (next s b) (moves s b))
   where
     stops : (o : Move) → Moves s b o → ⊥
-    stops (m.Go after) is = is.2 y (a ++ rest) l' (subst (Follows y) (sym e) f')
+    stops (m.Go after) is = is.2 y (a ++ rest) l' (subst (MayFollow y) (sym e) f')
     stops (m.Done found) is = is.2 y l'
     stops (m.Stop found) is = is.0 x a l
     stops m.Bad is = is.0 x a l
@@ -92,16 +92,16 @@ scan_once (b ∷ a) s x rest y (b' ∷ a') rest' once all l f l' f' e =
     go same m.Bad is tail = absurd (is.0 x a l)
 
 -- bytes that break a token begin none, however they go on
-pub scan_bad : (bytes : List ℕ) (s : State) (n : ℕ) → scan s n bytes ≡ sc.Bad → (class : Class) (a rest w : List ℕ) → bytes ++ w ≡ a ++ rest → Left s class a → Follows class rest → ⊥
+pub scan_bad : (bytes : List ℕ) (s : State) (n : ℕ) → scan s n bytes ≡ sc.Bad → (class : Class) (a rest w : List ℕ) → bytes ++ w ≡ a ++ rest → Left s class a → MayFollow class rest → ⊥
 unfolding scan
 scan_bad [] s n e class a rest w cut l f = absurd cc
 scan_bad (b ∷ bs) s n e class [] rest w cut l f = go (next s b) (moves s b) e
   where
     go : (o : Move) → Moves s b o → scan_by o n (λ after. scan after (n + 1) bs) ≡ sc.Bad → ⊥
-    go (m.Go after) is e = is.2 class (bs ++ w) l (subst (Follows class) (sym cut) f)
+    go (m.Go after) is e = is.2 class (bs ++ w) l (subst (MayFollow class) (sym cut) f)
     go (m.Done found) is e = absurd cc
     go (m.Stop found) is e = absurd cc
-    go m.Bad is e = is.1 class (bs ++ w) l (subst (Follows class) (sym cut) f)
+    go m.Bad is e = is.1 class (bs ++ w) l (subst (MayFollow class) (sym cut) f)
 scan_bad (b ∷ bs) s n e class (x ∷ a) rest w cut l f =
     go (next s b) (moves s b) e (subst (λ (k : ℕ). Left s class (k ∷ a)) (sym (heads_are b x (bs ++ w) (a ++ rest) cut)) l) (λ after h l. scan_bad bs after (n + 1) h class a rest w (tails_are b x (bs ++ w) (a ++ rest) cut) l f)
   where
@@ -123,14 +123,14 @@ scan_end (b ∷ bs) s n t e class a l = go (next s b) (moves s b) e (λ after h.
     go (m.Stop found) is e tail = absurd cc
     go m.Bad is e tail = absurd cc
 
-pub end_scan : (bytes : List ℕ) (s : State) (n : ℕ) (t : State) → scan s n bytes ≡ sc.End t → (class : Class) (a rest w : List ℕ) → bytes ++ w ≡ a ++ rest → Left s class a → Follows class rest
+pub end_scan : (bytes : List ℕ) (s : State) (n : ℕ) (t : State) → scan s n bytes ≡ sc.End t → (class : Class) (a rest w : List ℕ) → bytes ++ w ≡ a ++ rest → Left s class a → MayFollow class rest
     → (more : List ℕ) × (a ≡ bytes ++ more) × Left t class more
 unfolding scan
 end_scan [] s n t e class a rest w cut l f = (a, refl, subst (λ (x : State). Left x class a) (end_is s t e) l)
 end_scan (b ∷ bs) s n t e class [] rest w cut l f = absurd (go (next s b) (moves s b) e)
   where
     go : (o : Move) → Moves s b o → scan_by o n (λ after. scan after (n + 1) bs) ≡ sc.End t → ⊥
-    go (m.Go after) is e = is.2 class (bs ++ w) l (subst (Follows class) (sym cut) f)
+    go (m.Go after) is e = is.2 class (bs ++ w) l (subst (MayFollow class) (sym cut) f)
     go (m.Done found) is e = absurd cc
     go (m.Stop found) is e = absurd cc
     go m.Bad is e = absurd cc

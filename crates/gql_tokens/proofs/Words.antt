@@ -8,7 +8,7 @@ use Rattle.std.proofs.lemmas.Bool.Decides.{Decides-eqb}
 use Rattle.gql_tokens.specs.declared.kinds.Kind.{Kind}
 use Rattle.gql_tokens.specs.declared.kinds.Kind.TheVariants as k
 use Rattle.token_read.specs.Texts.{Among}
-use Rattle.gql_tokens.specs.Lexical.{begins, words, word_among, name_kind, Every, is_name_continue}
+use Rattle.gql_tokens.specs.Lexical.{begins, grammar_words, word_among, name_kind, Every, is_name_continue}
 use Rattle.gql_tokens.specs.Ends.{words_from}
 
 abbrev Words : Type 0
@@ -46,9 +46,9 @@ among_words (w ∷ ws) text x h = cond_both (bytes_eq x w.0) w.1 (word_among ws 
     inr (subst (Among w.1) (sym (cond-true (begins text w.0) (w.1 ∷ words_from text ws) (words_from text ws) b)) (inl refl)))
     (λ _. kept (word_among ws x) k.Name text w (words_from text ws) (among_words ws text x h))
 
-pub name_among : (text more : List ℕ) → Among (name_kind (text ++ more)) (k.Name ∷ words_from text words)
+pub name_among : (text more : List ℕ) → Among (name_kind (text ++ more)) (k.Name ∷ words_from text grammar_words)
 unfolding name_kind
-name_among text more = among_words words text (text ++ more) (begins_front text more)
+name_among text more = among_words grammar_words text (text ++ more) (begins_front text more)
 
 -- ---- each of those kinds may come of it
 
@@ -59,7 +59,7 @@ abbrev AllGood : Words → Type 0
 AllGood [] = Unit {0}
 AllGood (w ∷ ws) = Good w × AllGood ws
 
-are_good : AllGood words
+are_good : AllGood grammar_words
 unfolding name_kind
 are_good = (
   (refl, (refl, (refl, (refl, (refl, (refl, tt)))))),
@@ -108,7 +108,7 @@ abbrev NoLine : Words → Type 0
 NoLine [] = Unit {0}
 NoLine (w ∷ ws) = Every (λ b. not (b == 95)) w.0 × NoLine ws
 
-have_no_line : NoLine words
+have_no_line : NoLine grammar_words
 have_no_line = (
   (refl, (refl, (refl, (refl, (refl, tt))))),
   (
@@ -141,7 +141,7 @@ lined (w ∷ ws) text h = cond_both (bytes_eq (text ++ (95 ∷ [])) w.0) w.1 (wo
     no_line : Every (λ b. not (b == 95)) (95 ∷ []) → ⊥
     no_line x = absurd cc
 
-pub name_grows : (text : List ℕ) (kind : Kind) → Among kind (k.Name ∷ words_from text words) → Grown text kind
+pub name_grows : (text : List ℕ) (kind : Kind) → Among kind (k.Name ∷ words_from text grammar_words) → Grown text kind
 unfolding name_kind
-name_grows text kind (inl e) = (95 ∷ [], (refl, tt), lined words text have_no_line ∙ sym e)
-name_grows text kind (inr h) = grows_word words text kind are_good h
+name_grows text kind (inl e) = (95 ∷ [], (refl, tt), lined grammar_words text have_no_line ∙ sym e)
+name_grows text kind (inr h) = grows_word grammar_words text kind are_good h

@@ -96,15 +96,15 @@ abbrev pub is_quote : ℕ → Bool
 is_quote b = b == 34
 
 -- what may not follow a token
-abbrev pub Follows : Class → List ℕ → Type 0
-Follows c.Name rest = Stops is_name_continue rest
-Follows c.Number rest = Stops lengthens_number rest
-Follows c.Empty rest = Stops is_quote rest
-Follows _ rest = Unit {0}
+abbrev pub MayFollow : Class → List ℕ → Type 0
+MayFollow c.Name rest = Stops is_name_continue rest
+MayFollow c.Number rest = Stops lengthens_number rest
+MayFollow c.Empty rest = Stops is_quote rest
+MayFollow _ rest = Unit {0}
 
 -- the names that the grammar knows
-abbrev pub words : List (List ℕ × Kind)
-words = (codes "query", k.Query) ∷ ((codes "mutation", k.Mutation) ∷ ((codes "subscription", k.Subscription) ∷ ((codes "fragment", k.Fragment) ∷ ((codes "on", k.On)
+abbrev pub grammar_words : List (List ℕ × Kind)
+grammar_words = (codes "query", k.Query) ∷ ((codes "mutation", k.Mutation) ∷ ((codes "subscription", k.Subscription) ∷ ((codes "fragment", k.Fragment) ∷ ((codes "on", k.On)
     ∷ ((codes "true", k.True) ∷ ((codes "false", k.False) ∷ ((codes "null", k.Null) ∷ [])))))))
 
 abbrev pub word_among : List (List ℕ × Kind) → List ℕ → Kind
@@ -112,7 +112,7 @@ word_among [] a = k.Name
 word_among (w ∷ ws) a = if bytes_eq a w.0 then w.1 else word_among ws a
 
 unfoldable pub name_kind : List ℕ → Kind
-name_kind a = word_among words a
+name_kind a = word_among grammar_words a
 
 -- without so many bytes at either end
 abbrev pub between : ℕ → List ℕ → List ℕ
@@ -137,7 +137,7 @@ pub data IsIgnored : List ℕ → List ℕ → Type 0 where
 pub data Leads : List Token → List ℕ → List ℕ → Type 0 where
   here : {rest : List ℕ} → Leads [] rest rest
   skip : {ts : List Token} {rest : List ℕ} (a w : List ℕ) → IsIgnored a w → Leads ts w rest → Leads ts (a ++ w) rest
-  token : {ts : List Token} {rest : List ℕ} (class : Class) (a w : List ℕ) → IsLexeme class a → Follows class w → Leads ts w rest → Leads (token_of class a ∷ ts) (a ++ w) rest
+  token : {ts : List Token} {rest : List ℕ} (class : Class) (a w : List ℕ) → IsLexeme class a → MayFollow class w → Leads ts w rest → Leads (token_of class a ∷ ts) (a ++ w) rest
 
 -- the bytes are these tokens
 abbrev pub Lexes : List Token → List ℕ → Type 0

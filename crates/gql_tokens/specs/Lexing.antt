@@ -5,11 +5,11 @@ use Rattle.gql_tokens.specs.declared.kinds.Kind.{Kind}
 use Rattle.gql_tokens.specs.declared.scanner.Class.{Class}
 use Rattle.gql_tokens.specs.declared.lexer.Last.{Last}
 use Rattle.gql_tokens.specs.declared.lexer.Last.TheVariants as last
-use Rattle.gql_tokens.specs.Lexical.{Token, IsLexeme, Follows, IsIgnored, Leads, Lexes, IsReal, token_of}
+use Rattle.gql_tokens.specs.Lexical.{Token, IsLexeme, MayFollow, IsIgnored, Leads, Lexes, IsReal, token_of}
 
 -- this token begins the bytes
 abbrev pub TokenAt : List ℕ → Token → Type 0
-TokenAt rest t = (class : Class) × (a : List ℕ) × (w : List ℕ) × (rest ≡ a ++ w) × IsLexeme class a × Follows class w × (t ≡ token_of class a)
+TokenAt rest t = (class : Class) × (a : List ℕ) × (w : List ℕ) × (rest ≡ a ++ w) × IsLexeme class a × MayFollow class w × (t ≡ token_of class a)
 
 -- nothing that is ignored begins these bytes
 abbrev pub NoneIgnored : List ℕ → Type 0
@@ -44,10 +44,10 @@ pub record EndsCut (bytes : List ℕ) (tokens : List Token) (place : ℕ) (kinds
   pub lexes : (ts : List Token) → Lexes ts bytes → ⊥
   pub grows : Growing IsReal Lexes bytes tokens kinds
 
-abbrev pub Ends : List ℕ → List Token → List ℕ → Last → Type 0
-Ends bytes tokens places last.Settled = Lexes tokens bytes × Settled IsReal Lexes bytes tokens
-Ends bytes tokens places (last.Whole kinds) = EndsWhole bytes tokens kinds.items
-Ends bytes tokens places (last.Cut kinds) = EndsCut bytes tokens (slice_index places (length tokens)) kinds.items
+abbrev pub EndsTokens : List ℕ → List Token → List ℕ → Last → Type 0
+EndsTokens bytes tokens places last.Settled = Lexes tokens bytes × Settled IsReal Lexes bytes tokens
+EndsTokens bytes tokens places (last.Whole kinds) = EndsWhole bytes tokens kinds.items
+EndsTokens bytes tokens places (last.Cut kinds) = EndsCut bytes tokens (slice_index places (length tokens)) kinds.items
 
 -- where each token begins, and what is cut
 abbrev pub Counted : List Token → List ℕ → Last → Type 0
@@ -59,4 +59,4 @@ Counted tokens places (last.Cut kinds) = length places ≡ length tokens + 1
 pub record IsLexed (bytes : List ℕ) (tokens : List Token) (places : List ℕ) (last : Last) : Type 0 where
   pub placed : Placed bytes tokens places
   pub counted : Counted tokens places last
-  pub ends : Ends bytes tokens places last
+  pub ends : EndsTokens bytes tokens places last

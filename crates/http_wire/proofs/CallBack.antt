@@ -14,7 +14,7 @@ use Rattle.http_wire.specs.declared.faults.WireFault.{WireFault}
 use Rattle.http_wire.specs.declared.faults.WireFault.TheVariants as fault
 use Rattle.http_wire.specs.declared.message.Field.{Field}
 use Rattle.http_wire.specs.declared.message.Message.{Message}
-use Rattle.http_wire.specs.Heads.{Says, Opens, values_of, has_close, lists_close}
+use Rattle.http_wire.specs.Heads.{HeadSays, Opens, values_of, has_close, lists_close}
 use Rattle.http_wire.specs.Messages.{BeginsWith}
 use Rattle.http_wire.specs.ReadBack.{written, read_field, id_fields, call_fields, call_says, IsTheMessage, AreOneMessage}
 use Rattle.http_wire.specs.Writing.{field_line, is_field_value, is_target, can_be_sent, can_be_sent_where_there, id_line, call_head, call_bytes}
@@ -153,7 +153,7 @@ call_opens path host id count most text target value sent = record {
 -- ---- how it is read
 
 -- a head with this body behind it is read as one message
-one_message : (head body : List ℕ) (n : ℕ) (o : Says) → length head ≡ n → BeginsWith (head ++ body) n o → o.length ≡ length body → o.length ≤ 1048576 → AreOneMessage (head ++ body) o body
+one_message : (head body : List ℕ) (n : ℕ) (o : HeadSays) → length head ≡ n → BeginsWith (head ++ body) n o → o.length ≡ length body → o.length ≤ 1048576 → AreOneMessage (head ++ body) o body
 one_message head body n o size begins declared most more rest answer inside gives = by_view (view answer ((head ++ body) ++ more) rest inside gives)
   where
     whole : BeginsWith ((head ++ body) ++ more) n o
@@ -165,10 +165,10 @@ one_message head body n o size begins declared most more rest answer inside give
     total : length ((head ++ body) ++ more) ≡ (n + length body) + length more
     total = length-append (head ++ body) more ∙ ap (λ k. k + length more) (length-append head body ∙ ap (λ k. k + length body) size)
 
-    same_length : (p : Says) → SaysSame o p → o.length ≡ p.length
+    same_length : (p : HeadSays) → SaysSame o p → o.length ≡ p.length
     same_length p says = number o.length p.length says.length
 
-    by_head : (r : Result (Option Message) WireFault) (k : ℕ) (p : Says) → n ≡ k → SaysSame o p → AfterHead r k p ((head ++ body) ++ more) rest → IsTheMessage o body r × (rest ≡ more)
+    by_head : (r : Result (Option Message) WireFault) (k : ℕ) (p : HeadSays) → n ≡ k → SaysSame o p → AfterHead r k p ((head ++ body) ++ more) rest → IsTheMessage o body r × (rest ≡ more)
     by_head (Ok None) k p same says a = absurd a
     by_head (Ok (Some m)) k p same says a =
         let after : m.body ++ rest ≡ body ++ more =

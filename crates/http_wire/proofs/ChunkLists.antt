@@ -5,7 +5,7 @@ use Rattle.std.proofs.lemmas.Bool.{cases_lt}
 use Rattle.std.proofs.lemmas.List.Folds.{drop_split}
 use Rattle.httparse.specs.Grammar.{ChunkLine, ReadsChunkLine, print_chunk_line, chunk_size}
 use Rattle.httparse.proofs.ChunkLemmas.{chunk_line_unique, ReadsChunkLine-append}
-use Rattle.http_wire.specs.Chunks.{Chunk, IsChunk, with_chunk, Ends, AreChunks, ReadsChunks, AreUnfinishedChunks, BeginsChunk}
+use Rattle.http_wire.specs.Chunks.{Chunk, IsChunk, with_chunk, EndsChunks, AreChunks, ReadsChunks, AreUnfinishedChunks, BeginsChunk}
 use Rattle.http_wire.proofs.Carrying.{same_end}
 
 -- a chunked body begins with a chunk line
@@ -30,7 +30,7 @@ next_chunk l (c ∷ cs) y q body rest line some h =
     record { content = c.content; more = h.0; tail = h.1; size = ap chunk_size (sym same.0) ∙ h.2.size; whole = sym same.1; reads = (cs, h.5) }
 
 -- a body that begins with a line of length 0 ends there
-pub last_chunk : (l : ChunkLine) (cs : List Chunk) (y q body rest : List ℕ) → ReadsChunkLine y l q → chunk_size l ≡ 0 → AreChunks cs y body rest → (e : Ends y rest) × (e.line ≡ l)
+pub last_chunk : (l : ChunkLine) (cs : List Chunk) (y q body rest : List ℕ) → ReadsChunkLine y l q → chunk_size l ≡ 0 → AreChunks cs y body rest → (e : EndsChunks y rest) × (e.line ≡ l)
 last_chunk l [] y q body rest line zero h = (h.0, (chunk_line_unique y h.0.line l _ q h.0.reads line).0)
 last_chunk l (c ∷ cs) y q body rest line zero h =
     let same = chunk_line_unique y c.line l (c.content ++ (13 ∷ 10 ∷ h.0)) q (h.2.line, h.3) line in
@@ -40,7 +40,7 @@ pub line_inside : (y : List ℕ) (l : ChunkLine) (q : List ℕ) → ReadsChunkLi
 line_inside y l q h = ap length h.1 ∙ length-append (print_chunk_line l) q
 
 -- more bytes after the end change nothing
-ends_more : (b rest x : List ℕ) → Ends b rest → Ends (b ++ x) (rest ++ x)
+ends_more : (b rest x : List ℕ) → EndsChunks b rest → EndsChunks (b ++ x) (rest ++ x)
 ends_more b rest x e =
     let n = length (print_chunk_line e.line) in
     let at = e.at in
@@ -147,7 +147,7 @@ so_far_next all window x body head at from to next whole s b =
     }
 
 -- the last chunk ends the body
-pub so_far_last : (all window x body : List ℕ) (head at next : ℕ) → drop at all ≡ window ++ x → SoFar all body head at → Ends window (drop next window)
+pub so_far_last : (all window x body : List ℕ) (head at next : ℕ) → drop at all ≡ window ++ x → SoFar all body head at → EndsChunks window (drop next window)
     → ReadsChunks (drop head all) body (drop next window ++ x)
 so_far_last all window x body head at next whole s e =
     let last : ReadsChunks (window ++ x) [] (drop next window ++ x) = reads_more window [] (drop next window) x ([], (e, refl)) in

@@ -6,7 +6,7 @@ use Rattle.std.proofs.lemmas.Bool.{cases_lt}
 use Rattle.std.proofs.Common.{◌⊎◌, inl, inr}
 use Rattle.std.specs.Prelude.{if◌then◌else◌}
 use Rattle.std.specs.List.{list_all, list_any}
-use Rattle.http_wire.specs.Heads.{split_commas, with_first, is_close, lists_close}
+use Rattle.http_wire.specs.Heads.{split_commas, with_first_byte, is_close, lists_close}
 
 abbrev no_comma : ℕ → Bool
 no_comma b = not (b == 44)
@@ -27,18 +27,18 @@ second_true false y h = absurd_false y h
     absurd_false true h = refl
     absurd_false false h = h
 
-step : (b : ℕ) (bytes : List ℕ) → no_comma b ≡ true → split_commas (b ∷ bytes) ≡ with_first b (split_commas bytes)
-step b bytes none = ap (λ (x : Bool). if x then [] ∷ split_commas bytes else with_first b (split_commas bytes)) (other (b == 44) none)
+step : (b : ℕ) (bytes : List ℕ) → no_comma b ≡ true → split_commas (b ∷ bytes) ≡ with_first_byte b (split_commas bytes)
+step b bytes none = ap (λ (x : Bool). if x then [] ∷ split_commas bytes else with_first_byte b (split_commas bytes)) (other (b == 44) none)
 
 split_at : (part rest : List ℕ) → list_all no_comma part ≡ true → split_commas (part ++ 44 ∷ rest) ≡ part ∷ split_commas rest
 split_at [] rest none = refl
 split_at (b ∷ part) rest none =
-    step b (part ++ 44 ∷ rest) (first_true (no_comma b) (list_all no_comma part) none) ∙ ap (with_first b) (split_at part rest (second_true (no_comma b) (list_all no_comma part) none))
+    step b (part ++ 44 ∷ rest) (first_true (no_comma b) (list_all no_comma part) none) ∙ ap (with_first_byte b) (split_at part rest (second_true (no_comma b) (list_all no_comma part) none))
 
 split_alone : (part : List ℕ) → list_all no_comma part ≡ true → split_commas part ≡ part ∷ []
 split_alone [] none = refl
 split_alone (b ∷ part) none =
-    step b part (first_true (no_comma b) (list_all no_comma part) none) ∙ ap (with_first b) (split_alone part (second_true (no_comma b) (list_all no_comma part) none))
+    step b part (first_true (no_comma b) (list_all no_comma part) none) ∙ ap (with_first_byte b) (split_alone part (second_true (no_comma b) (list_all no_comma part) none))
 
 pub lists_first : (bytes : List ℕ) (at : ℕ) → at < length bytes → get_or bytes at 0 ≡ 44 → list_all no_comma (take at bytes) ≡ true
     → lists_close bytes ≡ (is_close (take at bytes) || lists_close (drop (at + 1) bytes))

@@ -7,7 +7,7 @@ use Rattle.std.specs.Cmp.Lexicographic.{pointwise}
 use Rattle.httparse.specs.Grammar.{RequestHead, ReadsRequest}
 use Rattle.httparse.proofs.GrammarLemmas.{request_unique}
 use Rattle.http_wire.specs.declared.message.Field.{Field}
-use Rattle.http_wire.specs.Heads.{Says, values_of, kept_fields, declared_length, Opens}
+use Rattle.http_wire.specs.Heads.{HeadSays, values_of, kept_fields, declared_length, Opens}
 
 pub rest_whole : (fields : List Field) (at : ℕ) → take (length fields - at) (drop at fields) ≡ drop at fields
 rest_whole fields at = grind (arith, common_steps)
@@ -34,7 +34,7 @@ Nothing None = Unit {0}
 Nothing (Some n) = ⊥
 
 -- one head declares one length
-pub declares_none : (bytes : List ℕ) (h : RequestHead) (fields : List Field) (o : Says) → ReadsRequest bytes h [] → fields ≡ kept_fields h → None ≡ declared_length fields → ¬ (Opens bytes o)
+pub declares_none : (bytes : List ℕ) (h : RequestHead) (fields : List Field) (o : HeadSays) → ReadsRequest bytes h [] → fields ≡ kept_fields h → None ≡ declared_length fields → ¬ (Opens bytes o)
 unfolding Nothing
 declares_none bytes h fields o reads kept none opens =
     let one = request_unique bytes opens.head h [] [] opens.reads reads in

@@ -7,17 +7,17 @@ use Rattle.http_wire.specs.declared.faults.WireFault.TheVariants as fault
 use Rattle.http_wire.specs.declared.message.Message.{Message}
 use Rattle.http_wire.specs.EmptyLine.{IsHeadLength, NoEmptyLine}
 use Rattle.http_wire.specs.Taking.{Uses}
-use Rattle.http_wire.specs.Heads.{Says, Opens}
-use Rattle.http_wire.specs.Messages.{BeginsWith, Carries, IsMessage, IsBad, IsTooLong, IsUnfinished, Reads}
-use Rattle.http_wire.specs.Answers.{IsLong, Gives, GivesWhereTold, IsInside, SameMessage, SameAnswer, OneAnswer}
+use Rattle.http_wire.specs.Heads.{HeadSays, Opens}
+use Rattle.http_wire.specs.Messages.{BeginsWith, IsMessageOf, IsMessage, IsBadHead, HeadIsTooLong, IsUnfinished, ReadsMessage}
+use Rattle.http_wire.specs.Answers.{IsOverLong, GivesMessage, GivesWhereTold, IsInside, SameMessage, SameAnswer, OneAnswer}
 use Rattle.http_wire.proofs.Carrying.{same_end}
 use Rattle.http_wire.proofs.Unique.{never_both, head_unique, SaysSame, opens_unique}
 use Rattle.http_wire.proofs.Whole.{head_more, head_inside, begins_more}
 
 -- an accepted head: the message, what it declares, or less than its body
-abbrev pub AfterHead : Result (Option Message) WireFault → ℕ → Says → List ℕ → List ℕ → Type 0
+abbrev pub AfterHead : Result (Option Message) WireFault → ℕ → HeadSays → List ℕ → List ℕ → Type 0
 AfterHead (Ok None) n o all rest = ⊥
-AfterHead (Ok (Some m)) n o all rest = Carries m o × (o.length ≡ length m.body) × (o.length ≤ 1048576) × (all ≡ take n all ++ (m.body ++ rest)) × (n + o.length ≤ length all)
+AfterHead (Ok (Some m)) n o all rest = IsMessageOf m o × (o.length ≡ length m.body) × (o.length ≤ 1048576) × (all ≡ take n all ++ (m.body ++ rest)) × (n + o.length ≤ length all)
 AfterHead (Err fault.Failed) n o all rest = ⊥
 AfterHead (Err fault.Memory) n o all rest = ⊥
 AfterHead (Err (fault.Bad t)) n o all rest = ⊥
@@ -52,8 +52,8 @@ pub record Headless (all : List ℕ) : Type 0 where
 
 -- which of the three an answer is
 pub data View (r : Result (Option Message) WireFault) (all rest : List ℕ) : Type 0 where
-  accepted : (n : ℕ) (o : Says) → BeginsWith all n o → AfterHead r n o all rest → View r all rest
-  refused : (n : ℕ) → IsBad all n → AfterBad r n all rest → View r all rest
+  accepted : (n : ℕ) (o : HeadSays) → BeginsWith all n o → AfterHead r n o all rest → View r all rest
+  refused : (n : ℕ) → IsBadHead all n → AfterBad r n all rest → View r all rest
   headless : Headless all → AfterNone r all rest → View r all rest
 
 message_view : (m : Message) (all used rest : List ℕ) → IsMessage used m → all ≡ used ++ rest → View (Ok (Some m)) all rest
@@ -71,7 +71,7 @@ message_view m all used rest is whole =
     let declared : o.length ≡ length m.body = is.declared in
     accepted n o begins (is.carries, declared, is.within, split, omega arith)
 
-pub view : (r : Result (Option Message) WireFault) (all rest : List ℕ) → IsInside r → Gives all r rest → View r all rest
+pub view : (r : Result (Option Message) WireFault) (all rest : List ℕ) → IsInside r → GivesMessage all r rest → View r all rest
 view (Ok None) all rest inside g =
     headless record { to = 0; none = λ at low high. absurd (omega arith); far = inr (let e : length all ≡ 0 = ap length g.0 in omega arith) } (ap length g.0, g.0, g.1)
 view (Ok (Some m)) all rest inside g = message_view m all g.0 rest g.1 g.2
@@ -80,7 +80,7 @@ view (Err fault.Memory) all rest inside g = absurd inside
 view (Err (fault.Bad t)) all rest inside g = refused t g.0 (refl, g.1)
 view (Err (fault.TooLong t)) all rest inside g = long g.0
   where
-    long : IsLong all t → View (Err (fault.TooLong t)) all rest
+    long : IsOverLong all t → View (Err (fault.TooLong t)) all rest
     long (inl (above, most, none)) = headless record { to = 16384; none = none; far = inl (omega arith) } (omega arith, none, g.1)
     long (inr (k, o, begins, is, above)) = accepted k o begins (is, above, g.1)
 view (Err (fault.Cut t)) all rest inside g = unfinished g.0.1
@@ -99,12 +99,12 @@ head_or_none all n h short less =
     reach (inl far) = let is : n ≡ h.0 + 1 = h.1 in omega arith
     reach (inr far) = let inside : h.0 < length all = h.2.inside in omega arith
 
-pub good_or_bad : (all : List ℕ) (n k : ℕ) (o : Says) → BeginsWith all n o → IsBad all k → ⊥
+pub good_or_bad : (all : List ℕ) (n k : ℕ) (o : HeadSays) → BeginsWith all n o → IsBadHead all k → ⊥
 good_or_bad all n k o b bad =
     let same = head_unique all n k b.head bad.head in
     bad.refused o (subst (λ (i : ℕ). Opens (take i all) o) same b.opens)
 
-pub same_says : (all : List ℕ) (n k : ℕ) (o p : Says) → BeginsWith all n o → BeginsWith all k p → (n ≡ k) × SaysSame o p
+pub same_says : (all : List ℕ) (n k : ℕ) (o p : HeadSays) → BeginsWith all n o → BeginsWith all k p → (n ≡ k) × SaysSame o p
 same_says all n k o p b c =
     let same = head_unique all n k b.head c.head in
     (same, opens_unique (take n all) o p b.opens (subst (λ (i : ℕ). Opens (take i all) p) (sym same) c.opens))
@@ -112,7 +112,7 @@ same_says all n k o p b c =
 pub number : (a b : ℕ) → Some a ≡ Some b → a ≡ b
 number a b e = cc
 
-messages : (m q : Message) (n k : ℕ) (o p : Says) (all rest left : List ℕ) → n ≡ k → SaysSame o p → AfterHead (Ok (Some m)) n o all rest → AfterHead (Ok (Some q)) k p all left
+messages : (m q : Message) (n k : ℕ) (o p : HeadSays) (all rest left : List ℕ) → n ≡ k → SaysSame o p → AfterHead (Ok (Some m)) n o all rest → AfterHead (Ok (Some q)) k p all left
     → SameMessage m q × (rest ≡ left)
 messages m q n k o p all rest left same says a b =
     let after : m.body ++ rest ≡ q.body ++ left =
@@ -129,7 +129,7 @@ messages m q n k o p all rest left same says a b =
       sym (drop_at m.body rest j refl) ∙ ap (drop j) after ∙ drop_at q.body left j (sym size),
     )
 
-accepted_same : (r s : Result (Option Message) WireFault) (n k : ℕ) (o p : Says) (all rest left : List ℕ) → n ≡ k → SaysSame o p → AfterHead r n o all rest → AfterHead s k p all left → SameAnswer all r s × (rest ≡ left)
+accepted_same : (r s : Result (Option Message) WireFault) (n k : ℕ) (o p : HeadSays) (all rest left : List ℕ) → n ≡ k → SaysSame o p → AfterHead r n o all rest → AfterHead s k p all left → SameAnswer all r s × (rest ≡ left)
 accepted_same (Ok None) s n k o p all rest left same says a b = absurd a
 accepted_same (Ok (Some m)) (Ok None) n k o p all rest left same says a b = absurd b
 accepted_same (Ok (Some m)) (Ok (Some q)) n k o p all rest left same says a b = messages m q n k o p all rest left same says a b
@@ -217,7 +217,7 @@ whole_bytes : (kept now l a used : List ℕ) → Uses kept now (Some l) (Some a)
 whole_bytes kept now l a used u =
     ap (λ b. kept ++ b) u.consumed ∙ sym (append_assoc kept u.given a) ∙ ap (λ b. b ++ a) u.whole ∙ append_assoc used now a
 
-uses_some : (r : Result (Option Message) WireFault) (kept now : List ℕ) (left after : Option (List ℕ)) (before count : ℕ) → Reads kept now left after before count r → (used : List ℕ) × Uses kept now left after used
+uses_some : (r : Result (Option Message) WireFault) (kept now : List ℕ) (left after : Option (List ℕ)) (before count : ℕ) → ReadsMessage kept now left after before count r → (used : List ℕ) × Uses kept now left after used
 uses_some (Ok None) kept now left after before count h = ([], h.0.used)
 uses_some (Ok (Some m)) kept now left after before count h = (h.0, h.1)
 uses_some (Err fault.Failed) kept now left after before count h = ([], h.0)
@@ -226,18 +226,18 @@ uses_some (Err (fault.Bad t)) kept now left after before count h = ([], h.0)
 uses_some (Err (fault.TooLong t)) kept now left after before count h = ([], h.0)
 uses_some (Err (fault.Cut t)) kept now left after before count h = ([], h.0.used)
 
-bad_more : (now a : List ℕ) (n : ℕ) → IsBad now n → IsBad (now ++ a) n
+bad_more : (now a : List ℕ) (n : ℕ) → IsBadHead now n → IsBadHead (now ++ a) n
 bad_more now a n b = record {
   head = head_more now a n b.head;
   short = b.short;
   refused = λ o opens. b.refused o (subst (λ (bytes : List ℕ). Opens bytes o) (take-append-le n now a (head_inside now n b.head)) opens);
 }
 
-long_more : (now a : List ℕ) (n : ℕ) → IsTooLong now n → IsLong (now ++ a) n
+long_more : (now a : List ℕ) (n : ℕ) → HeadIsTooLong now n → IsOverLong (now ++ a) n
 long_more now a n (inl (is, above, none)) = inl (above, subst (λ (k : ℕ). n ≤ k) (sym (length-append now a)) (omega arith), λ at low high. same_end now a at (omega arith) ∙ none at low high)
 long_more now a n (inr (k, o, begins, is, above)) = inr (k, o, begins_more now a k o begins, is, above)
 
-pub reads_gives : (r : Result (Option Message) WireFault) (kept now : List ℕ) (left after : Option (List ℕ)) (before count : ℕ) → Reads kept now left after before count r → GivesWhereTold kept now left after r
+pub reads_gives : (r : Result (Option Message) WireFault) (kept now : List ℕ) (left after : Option (List ℕ)) (before count : ℕ) → ReadsMessage kept now left after before count r → GivesWhereTold kept now left after r
 reads_gives r kept now None after before count h = tt
 reads_gives r kept now (Some l) None before count h = absurd (uses_some r kept now (Some l) None before count h).1.consumed
 reads_gives (Ok None) kept now (Some l) (Some a) before count h =
@@ -249,10 +249,10 @@ reads_gives (Err fault.Failed) kept now (Some l) (Some a) before count h = (tt, 
 reads_gives (Err fault.Memory) kept now (Some l) (Some a) before count h = (tt, sym (whole_bytes kept now l a [] h))
 reads_gives (Err (fault.Bad t)) kept now (Some l) (Some a) before count h =
     let whole = whole_bytes kept now l a [] h.0 in
-    (subst (λ (b : List ℕ). IsBad b t) (sym whole) (bad_more now a t h.1), sym whole)
+    (subst (λ (b : List ℕ). IsBadHead b t) (sym whole) (bad_more now a t h.1), sym whole)
 reads_gives (Err (fault.TooLong t)) kept now (Some l) (Some a) before count h =
     let whole = whole_bytes kept now l a [] h.0 in
-    (subst (λ (b : List ℕ). IsLong b t) (sym whole) (long_more now a t h.1), sym whole)
+    (subst (λ (b : List ℕ). IsOverLong b t) (sym whole) (long_more now a t h.1), sym whole)
 reads_gives (Err (fault.Cut t)) kept now (Some l) (Some a) before count h =
     let whole = whole_bytes kept now l a [] h.0.used in
     let all : now ≡ kept ++ l = sym (whole ∙ ap (λ b. now ++ b) h.0.ended ∙ append-nil now) in

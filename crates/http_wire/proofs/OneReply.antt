@@ -15,9 +15,9 @@ use Rattle.http_wire.specs.declared.reply_head.ReplyHead.{ReplyHead}
 use Rattle.http_wire.specs.EmptyLine.{ends_empty_line, IsHeadLength, NoEmptyLine}
 use Rattle.http_wire.specs.Framings.{OpensReply, reply_fields, framing_of, joined, first_text}
 use Rattle.http_wire.specs.Heads.{values_of}
-use Rattle.http_wire.specs.Chunks.{Chunk, Ends, AreChunks, ReadsChunks, AreUnfinishedChunks, with_chunk}
+use Rattle.http_wire.specs.Chunks.{Chunk, EndsChunks, AreChunks, ReadsChunks, AreUnfinishedChunks, with_chunk}
 use Rattle.http_wire.specs.Bodies.{HasBody, IsBadBody, IsLongBody, IsShortBody}
-use Rattle.http_wire.specs.Replies.{BeginsReply, Answers, IsBadReply, IsLongReply, IsShortReply}
+use Rattle.http_wire.specs.Replies.{BeginsReply, IsReplyOf, IsBadReply, IsLongReply, IsShortReply}
 use Rattle.http_wire.specs.ReplyAnswers.{MayAnswer, IsSettled, IsUndeclared, HasOpenBody, SameReply, SameReplyAnswer, OneReply}
 use Rattle.http_wire.proofs.Carrying.{same_end}
 use Rattle.http_wire.proofs.ChunkLists.{reads_more, take_past, with_more}
@@ -46,7 +46,7 @@ chunks_unique (c ∷ cs) (d ∷ ds) y body other rest left h j =
     let tail : h.1 ≡ j.1 = chunks_unique cs ds h.0 h.1 j.1 rest left h.5 (subst (λ (b : List ℕ). AreChunks ds b j.1 left) (sym (ap (drop 2) ends)) j.5) in
     h.4 ∙ ap (λ b. b ++ h.1) content ∙ ap (λ t. d.content ++ t) tail ∙ sym j.4
 
-last_front : (y rest : List ℕ) → Ends y rest → (u : List ℕ) × (y ≡ u ++ rest) × Ends u []
+last_front : (y rest : List ℕ) → EndsChunks y rest → (u : List ℕ) × (y ≡ u ++ rest) × EndsChunks u []
 last_front y rest e =
     let n = length (print_chunk_line e.line) in
     let at = e.at in
@@ -102,7 +102,7 @@ window_more (suc n) (a ∷ t) x = let w = window_more n t x in (w.0, ap (λ l. a
 -- ---- what follows a head
 
 abbrev pub Answered : Result Reply WireFault → ReplyHead → Type 0
-Answered (Ok reply) h = Answers reply h
+Answered (Ok reply) h = IsReplyOf reply h
 Answered (Err e) h = Unit {0}
 
 -- what the bytes after a head give, framed so, where all are this many
@@ -117,7 +117,7 @@ pub data Tail (b : List ℕ) (total : ℕ) : Framing → Result Reply WireFault 
   to_end : {reply : Reply} → b ≡ reply.body → length b ≤ 4194304 → Tail b total framing.ToEnd (Ok reply)
   to_end_long : {n : ℕ} → 4194304 < length b → Tail b total framing.ToEnd (Err (fault.TooLong n))
 
-same_reply : (m q : Reply) (h : ReplyHead) → Answers m h → Answers q h → m.body ≡ q.body → SameReply m q
+same_reply : (m q : Reply) (h : ReplyHead) → IsReplyOf m h → IsReplyOf q h → m.body ≡ q.body → SameReply m q
 same_reply m q h a c same = record {
   status = a.status ∙ sym c.status;
   cache_control = a.cache_control ∙ sym c.cache_control;

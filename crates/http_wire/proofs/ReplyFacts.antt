@@ -13,7 +13,7 @@ use Rattle.http_wire.specs.declared.framing.Framing.TheVariants as framing
 use Rattle.std.specs.Prelude.{Bool, Result, Ok, Err}
 use Rattle.http_wire.specs.Framings.{OpensReply}
 use Rattle.http_wire.specs.Bodies.{HasBody, BodyBut, GoesOnOr}
-use Rattle.http_wire.specs.Replies.{BeginsReply, Answers, IsReply, ReplyBut}
+use Rattle.http_wire.specs.Replies.{BeginsReply, IsReplyOf, IsReply, ReplyBut}
 use Rattle.http_wire.proofs.Whole.{used_twice, used_to_end, rose_before, head_more, head_inside}
 
 -- all that is kept came from the source
@@ -61,7 +61,7 @@ no_body_came (fault.Cut t) k h kept mid now l m n x y z le none first begins b =
     (now, all_came kept now l n none (used_twice kept mid now l m n first b.0.used), (b.0.ended, b.1, inr (k, h, begins_reply_on mid now m n k h b.0.used begins, b.2)))
 
 pub reply_came : (k : ℕ) (h : ReplyHead) (reply : Reply) (body kept mid now : List ℕ) (l m n : Option (List ℕ)) → kept ≡ []
-    → Uses kept mid l m [] → BeginsReply mid k h → Answers reply h → reply.body ≡ body → Uses mid now m n [] → HasBody h.framing (drop k now) body n
+    → Uses kept mid l m [] → BeginsReply mid k h → IsReplyOf reply h → reply.body ≡ body → Uses mid now m n [] → HasBody h.framing (drop k now) body n
     → (taken : List ℕ) × Consumes l n taken × IsReply taken reply n
 reply_came k h reply body kept mid now l m n none first begins answers same then has = (
   now,

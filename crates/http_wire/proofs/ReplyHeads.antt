@@ -12,7 +12,7 @@ use Rattle.httparse.proofs.GrammarLemmas.{response_unique}
 use Rattle.http_wire.specs.declared.message.Field.{Field}
 use Rattle.http_wire.specs.declared.reply_head.ReplyHead.{ReplyHead}
 use Rattle.http_wire.specs.Heads.{values_of}
-use Rattle.http_wire.specs.Framings.{reply_fields, framing_of, OpensReply, text_or_mark, listed}
+use Rattle.http_wire.specs.Framings.{reply_fields, framing_of, OpensReply, text_or_mark, further_values}
 
 pub reply_reads_all : (buf : List ℕ) (headers : List HeaderSpan) (r : ResponseSpans) (h : ResponseHead) → IsResponseAt buf headers r h → r.len ≡ length buf → ReadsResponse buf h []
 reply_reads_all buf headers r h at len = subst (λ (rest : List ℕ). ReadsResponse buf h rest) (drop_all r.len buf (let full : r.len ≡ length buf = len in omega arith)) at.reads
@@ -30,6 +30,6 @@ no_text v none =
     elim (is_utf8 v) as (λ b. is_utf8 v ≡ b → codes "?" ≡ (if b then v else codes "?")) [ true ↦ λ e. absurd (none (IsUtf8-from_is_utf8 v e)) | false ↦ λ e. refl ] refl
 
 pub one_more : (list v name : List ℕ) (rest more : List Field) (whole : Option (List ℕ)) → values_of name rest ≡ v ∷ values_of name more
-    → Some (list ++ listed (values_of name rest)) ≡ whole → Some (((list ++ codes ", ") ++ text_or_mark v) ++ listed (values_of name more)) ≡ whole
+    → Some (list ++ further_values (values_of name rest)) ≡ whole → Some (((list ++ codes ", ") ++ text_or_mark v) ++ further_values (values_of name more)) ≡ whole
 one_more list v name rest more whole named so_far =
-    ap Some (append_assoc (list ++ codes ", ") (text_or_mark v) (listed (values_of name more)) ∙ append_assoc list (codes ", ") (text_or_mark v ++ listed (values_of name more)) ∙ ap (λ vs. list ++ listed vs) (sym named)) ∙ so_far
+    ap Some (append_assoc (list ++ codes ", ") (text_or_mark v) (further_values (values_of name more)) ∙ append_assoc list (codes ", ") (text_or_mark v ++ further_values (values_of name more)) ∙ ap (λ vs. list ++ further_values vs) (sym named)) ∙ so_far

@@ -7,7 +7,7 @@ use Rattle.httparse.specs.Grammar.{ChunkLine, ReadsChunkLine, HasNoChunkLine, Ne
 use Rattle.httparse.specs.Spans.{IsChunkLineAt}
 use Rattle.httparse.proofs.ChunkLemmas.{ReadsChunkLine-append}
 use Rattle.http_wire.specs.EmptyLine.{ends_empty_line, NoEmptyLine}
-use Rattle.http_wire.specs.Chunks.{Ends, ReadsChunks, BeginsChunk}
+use Rattle.http_wire.specs.Chunks.{EndsChunks, ReadsChunks, BeginsChunk}
 use Rattle.http_wire.proofs.ChunkLists.{begins_line, next_chunk, last_chunk, line_inside}
 use Rattle.http_wire.proofs.Unique.{never_both}
 
@@ -24,7 +24,7 @@ line_fits bytes from size l at =
     omega arith
 
 pub last_found : (bytes : List ℕ) (from : ℕ) (l : ChunkLine) (at : ℕ) → IsChunkLineAt bytes from 0 l → from ≤ at → at < length bytes
-    → ends_empty_line bytes at ≡ true → NoEmptyLine bytes from at → Ends bytes (drop (at + 1) bytes)
+    → ends_empty_line bytes at ≡ true → NoEmptyLine bytes from at → EndsChunks bytes (drop (at + 1) bytes)
 last_found bytes from l at line beyond inside ends first = record {
   line = l;
   reads = subst (λ (n : ℕ). ReadsChunkLine bytes l (drop n bytes)) line.len_is line.reads;

@@ -13,7 +13,7 @@ use Rattle.httparse.specs.Grammar.{ChunkLine, IsChunkLine, ReadsChunkLine, MayBe
 use Rattle.httparse.specs.Spans.{IsChunkLineAt}
 use Rattle.httparse.proofs.ChunkLemmas.{ReadsChunkLine-append}
 use Rattle.http_wire.specs.EmptyLine.{ends_empty_line, NoEmptyLine}
-use Rattle.http_wire.specs.Chunks.{Ends, ReadsChunks, AreUnfinishedChunks}
+use Rattle.http_wire.specs.Chunks.{EndsChunks, ReadsChunks, AreUnfinishedChunks}
 use Rattle.http_wire.proofs.Carrying.{same_end}
 use Rattle.http_wire.proofs.StepFacts.{line_fits, last_found, last_missing, content_missing, no_line}
 
@@ -60,7 +60,7 @@ two_feeds xs at a b e = rw (a, b, e) refl
 last_goes_on : (bytes : List ℕ) (from : ℕ) (l : ChunkLine) → IsChunkLineAt bytes from 0 l → NoEmptyLine bytes from (length bytes) → GoesOn bytes
 last_goes_on bytes from l line none = by_first (ends_empty_line (bytes ++ (10 ∷ 10 ∷ [])) (length bytes)) refl
   where
-    at_once : (all : List ℕ) (at : ℕ) → all ≡ bytes ++ (10 ∷ 10 ∷ []) → Ends all (drop (at + 1) all) → GoesOn bytes
+    at_once : (all : List ℕ) (at : ℕ) → all ≡ bytes ++ (10 ∷ 10 ∷ []) → EndsChunks all (drop (at + 1) all) → GoesOn bytes
     at_once all at same e = record {
       more = 10 ∷ 10 ∷ [];
       body = [];

@@ -2,7 +2,7 @@
 use Rattle.std.proofs.Common.{◌≡◌, ◌∙◌, sym, ap, ℕ, ◌+◌, List, [], subst, ◌<◌, arith, Bool, true, false, Some}
 use Rattle.httparse.proofs.GrammarLemmas.{request_unique}
 use Rattle.http_wire.specs.EmptyLine.{IsHeadLength}
-use Rattle.http_wire.specs.Heads.{Says, Opens, kept_fields, closes, declared_length}
+use Rattle.http_wire.specs.Heads.{HeadSays, Opens, kept_fields, closes, declared_length}
 
 Truth : Bool → Type 0
 Truth true = Unit {0}
@@ -23,14 +23,14 @@ head_unique bytes n k h j =
     let d : ¬ (j.0 < h.0) = not_before bytes k n j h in
     omega arith
 
-pub record SaysSame (o p : Says) : Type 0 where
+pub record SaysSame (o p : HeadSays) : Type 0 where
   pub method : o.method ≡ p.method
   pub target : o.target ≡ p.target
   pub fields : o.fields ≡ p.fields
   pub close : o.close ≡ p.close
   pub length : Some o.length ≡ Some p.length
 
-pub opens_unique : (bytes : List ℕ) (o p : Says) → Opens bytes o → Opens bytes p → SaysSame o p
+pub opens_unique : (bytes : List ℕ) (o p : HeadSays) → Opens bytes o → Opens bytes p → SaysSame o p
 opens_unique bytes o p x y =
     let one = (request_unique bytes x.head y.head [] [] x.reads y.reads).0 in
     let fields = x.fields ∙ ap kept_fields one ∙ sym y.fields in

@@ -9,8 +9,8 @@ use Rattle.http_wire.specs.Taking.{Uses, KeepsAll, FillsBut, GathersBut, StopsSh
 use Rattle.flow_base.specs.Causes.{Rose}
 use Rattle.http_wire.specs.declared.faults.WireFault.{WireFault}
 use Rattle.http_wire.specs.declared.faults.WireFault.TheVariants as fault
-use Rattle.http_wire.specs.Heads.{Says, Opens}
-use Rattle.http_wire.specs.Messages.{BeginsWith, Carries, IsMessage, ReadsBut}
+use Rattle.http_wire.specs.Heads.{HeadSays, Opens}
+use Rattle.http_wire.specs.Messages.{BeginsWith, IsMessageOf, IsMessage, ReadsBut}
 use Rattle.http_wire.proofs.Carrying.{same_end}
 
 pub used_twice : (a b d : List ℕ) (l m n : Option (List ℕ)) → Uses a b l m [] → Uses b d m n [] → Uses a d l n []
@@ -78,14 +78,14 @@ head_less xs ys n le h =
 pub head_inside : (xs : List ℕ) (n : ℕ) → IsHeadLength xs n → n ≤ length xs
 head_inside xs n h = let i : h.0 < length xs = h.2.inside in let is : n ≡ h.0 + 1 = h.1 in omega arith
 
-pub begins_more : (xs ys : List ℕ) (n : ℕ) (o : Says) → BeginsWith xs n o → BeginsWith (xs ++ ys) n o
+pub begins_more : (xs ys : List ℕ) (n : ℕ) (o : HeadSays) → BeginsWith xs n o → BeginsWith (xs ++ ys) n o
 begins_more xs ys n o b = record {
   head = head_more xs ys n b.head;
   short = b.short;
   opens = subst (λ (bytes : List ℕ). Opens bytes o) (sym (take-append-le n xs ys (head_inside xs n b.head))) b.opens;
 }
 
-begins_less : (xs ys : List ℕ) (n : ℕ) (o : Says) → n ≤ length xs → BeginsWith (xs ++ ys) n o → BeginsWith xs n o
+begins_less : (xs ys : List ℕ) (n : ℕ) (o : HeadSays) → n ≤ length xs → BeginsWith (xs ++ ys) n o → BeginsWith xs n o
 begins_less xs ys n o le b = record {
   head = head_less xs ys n le b.head;
   short = b.short;
@@ -93,16 +93,16 @@ begins_less xs ys n o le b = record {
 }
 
 -- what begins so still does when more is kept
-pub begins_on : (a b : List ℕ) (l m : Option (List ℕ)) (n : ℕ) (o : Says) → Uses a b l m [] → BeginsWith a n o → BeginsWith b n o
+pub begins_on : (a b : List ℕ) (l m : Option (List ℕ)) (n : ℕ) (o : HeadSays) → Uses a b l m [] → BeginsWith a n o → BeginsWith b n o
 begins_on a b l m n o all begins = subst (λ (bytes : List ℕ). BeginsWith bytes n o) all.whole (begins_more a all.given n o begins)
 
 -- a front that is long enough begins as the whole does
-pub begins_front : (xs : List ℕ) (n k : ℕ) (o : Says) → n ≤ length (take k xs) → BeginsWith xs n o → BeginsWith (take k xs) n o
+pub begins_front : (xs : List ℕ) (n k : ℕ) (o : HeadSays) → n ≤ length (take k xs) → BeginsWith xs n o → BeginsWith (take k xs) n o
 begins_front xs n k o le begins =
     begins_less (take k xs) (drop k xs) n o le (subst (λ (bytes : List ℕ). BeginsWith bytes n o) (sym (take-append-drop k xs)) begins)
 
 -- the bytes up to the end of the body are the message
-pub is_message : (xs body : List ℕ) (n k : ℕ) (o : Says) (m : Message) → BeginsWith xs n o → Carries m o
+pub is_message : (xs body : List ℕ) (n k : ℕ) (o : HeadSays) (m : Message) → BeginsWith xs n o → IsMessageOf m o
     → k ≡ n + o.length → k ≤ length xs → m.body ≡ drop n (take k xs) → o.length ≤ 1048576 → IsMessage (take k xs) m
 is_message xs body n k o m begins carries total le same within =
     let l = length-take k xs in
@@ -118,7 +118,7 @@ is_message xs body n k o m begins carries total le same within =
     }
 
 -- a body that can't be had is a message that can't be had
-pub stopped : (e : WireFault) (a b d : List ℕ) (l m n : Option (List ℕ)) (x y z : ℕ) (k : ℕ) (o : Says) → x ≤ y
+pub stopped : (e : WireFault) (a b d : List ℕ) (l m n : Option (List ℕ)) (x y z : ℕ) (k : ℕ) (o : HeadSays) → x ≤ y
     → Uses a b l m [] → BeginsWith b k o → o.length ≤ 1048576 → StopsShort e (k + o.length) b d m n y z → ReadsBut e a d l n x z
 stopped fault.Failed a b d l m n x y z k o le first begins within stops = (used_twice a b d l m n first stops.0, rose_before x y z le stops.1)
 stopped fault.Memory a b d l m n x y z k o le first begins within stops = used_twice a b d l m n first stops

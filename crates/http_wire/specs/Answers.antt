@@ -4,34 +4,34 @@ use Rattle.http_wire.specs.declared.faults.WireFault.{WireFault}
 use Rattle.http_wire.specs.declared.faults.WireFault.TheVariants as fault
 use Rattle.http_wire.specs.declared.message.Message.{Message}
 use Rattle.http_wire.specs.EmptyLine.{NoEmptyLine}
-use Rattle.http_wire.specs.Heads.{Says}
-use Rattle.http_wire.specs.Messages.{BeginsWith, IsMessage, IsBad, IsUnfinished}
+use Rattle.http_wire.specs.Heads.{HeadSays}
+use Rattle.http_wire.specs.Messages.{BeginsWith, IsMessage, IsBadHead, IsUnfinished}
 
 -- no head ends in the first 16384 of more bytes, of which so many were read; or an accepted head declares so many
-abbrev pub IsLong : List ℕ → ℕ → Type 0
-IsLong all n =
+abbrev pub IsOverLong : List ℕ → ℕ → Type 0
+IsOverLong all n =
     ((16384 < n) × (n ≤ length all) × NoEmptyLine all 0 16384)
-    ⊎ ((k : ℕ) × (o : Says) × BeginsWith all k o × (n ≡ o.length) × (1048576 < n))
+    ⊎ ((k : ℕ) × (o : HeadSays) × BeginsWith all k o × (n ≡ o.length) × (1048576 < n))
 
 abbrev pub GivesFault : WireFault → List ℕ → Type 0
 GivesFault fault.Failed all = Unit {0}
 GivesFault fault.Memory all = Unit {0}
-GivesFault (fault.Bad n) all = IsBad all n
-GivesFault (fault.TooLong n) all = IsLong all n
+GivesFault (fault.Bad n) all = IsBadHead all n
+GivesFault (fault.TooLong n) all = IsOverLong all n
 GivesFault (fault.Cut n) all = (n ≡ length all) × IsUnfinished all
 
 -- the bytes give this answer, and the rest is left for the next one; a fault leaves all
-abbrev pub Gives : List ℕ → Result (Option Message) WireFault → List ℕ → Type 0
-Gives all (Ok (Some m)) rest = (used : List ℕ) × IsMessage used m × (all ≡ used ++ rest)
-Gives all (Ok None) rest = (all ≡ []) × (rest ≡ [])
-Gives all (Err e) rest = GivesFault e all × (rest ≡ all)
+abbrev pub GivesMessage : List ℕ → Result (Option Message) WireFault → List ℕ → Type 0
+GivesMessage all (Ok (Some m)) rest = (used : List ℕ) × IsMessage used m × (all ≡ used ++ rest)
+GivesMessage all (Ok None) rest = (all ≡ []) × (rest ≡ [])
+GivesMessage all (Err e) rest = GivesFault e all × (rest ≡ all)
 
 -- where the source tells its bytes: those that were kept and those that were left give the answer, and those that are
 -- kept and left now are the rest
 abbrev pub GivesWhereTold : List ℕ → List ℕ → Option (List ℕ) → Option (List ℕ) → Result (Option Message) WireFault → Type 0
 GivesWhereTold kept now None after result = Unit {0}
 GivesWhereTold kept now (Some left) None result = ⊥
-GivesWhereTold kept now (Some left) (Some after) result = Gives (kept ++ left) result (now ++ after)
+GivesWhereTold kept now (Some left) (Some after) result = GivesMessage (kept ++ left) result (now ++ after)
 
 -- the source did not fail, and memory did not run out
 abbrev pub IsInside : Result (Option Message) WireFault → Type 0
@@ -85,5 +85,5 @@ SameAnswer all (Err e) (Err f) = SameFault all e f
 abbrev pub OneAnswer : Type 0
 OneAnswer =
     (all rest left : List ℕ) (first second : Result (Option Message) WireFault)
-    → IsInside first → IsInside second → Gives all first rest → Gives all second left
+    → IsInside first → IsInside second → GivesMessage all first rest → GivesMessage all second left
     → SameAnswer all first second × (rest ≡ left)

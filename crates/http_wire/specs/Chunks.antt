@@ -22,7 +22,7 @@ with_chunk c more = print_chunk_line c.line ++ (c.content ++ (13 ∷ 10 ∷ more
 
 -- the line of the last chunk, of length 0, and the lines after it up to and with the first empty one, which ends
 -- at this place; the rest follows
-pub record Ends (bytes rest : List ℕ) : Type 0 where
+pub record EndsChunks (bytes rest : List ℕ) : Type 0 where
   pub line : ChunkLine
   pub reads : ReadsChunkLine bytes line (drop (length (print_chunk_line line)) bytes)
   pub zero : chunk_size line ≡ 0
@@ -35,7 +35,7 @@ pub record Ends (bytes rest : List ℕ) : Type 0 where
 
 -- the bytes are these chunks, the last one's line and the lines after it, and then the rest; the data is the body
 abbrev pub AreChunks : List Chunk → List ℕ → List ℕ → List ℕ → Type 0
-AreChunks [] bytes body rest = Ends bytes rest × (body ≡ [])
+AreChunks [] bytes body rest = EndsChunks bytes rest × (body ≡ [])
 AreChunks (c ∷ cs) bytes body rest =
     (more : List ℕ) × (tail : List ℕ) × IsChunk c × (bytes ≡ with_chunk c more) × (body ≡ c.content ++ tail) × AreChunks cs more tail rest
 
@@ -62,8 +62,8 @@ pub record BeginsChunk (bytes : List ℕ) (from to next : ℕ) : Type 0 where
   pub inside : next ≤ length bytes
 
 -- what stands first in these bytes
-abbrev pub Begins : List ℕ → Step → Type 0
-Begins bytes (step.Chunk from to next) = BeginsChunk bytes from to next
-Begins bytes (step.Last next) = Ends bytes (drop next bytes) × (next ≤ length bytes)
-Begins bytes step.Bad = (more body rest : List ℕ) → ¬ (ReadsChunks (bytes ++ more) body rest)
-Begins bytes (step.More want) = AreUnfinishedChunks bytes
+abbrev pub BeginsChunks : List ℕ → Step → Type 0
+BeginsChunks bytes (step.Chunk from to next) = BeginsChunk bytes from to next
+BeginsChunks bytes (step.Last next) = EndsChunks bytes (drop next bytes) × (next ≤ length bytes)
+BeginsChunks bytes step.Bad = (more body rest : List ℕ) → ¬ (ReadsChunks (bytes ++ more) body rest)
+BeginsChunks bytes (step.More want) = AreUnfinishedChunks bytes

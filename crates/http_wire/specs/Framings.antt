@@ -37,14 +37,14 @@ abbrev pub text_or_mark : List ℕ → List ℕ
 text_or_mark value = if is_utf8 value then value else codes "?"
 
 -- further values, each after a comma and a space
-abbrev pub listed : List (List ℕ) → List ℕ
-listed [] = []
-listed (value ∷ values) = codes ", " ++ (text_or_mark value ++ listed values)
+abbrev pub further_values : List (List ℕ) → List ℕ
+further_values [] = []
+further_values (value ∷ values) = codes ", " ++ (text_or_mark value ++ further_values values)
 
 -- the values of one field as one list (RFC 9110, section 5.3)
 abbrev pub joined : List (List ℕ) → Option (List ℕ)
 joined [] = None
-joined (value ∷ values) = Some (text_or_mark value ++ listed values)
+joined (value ∷ values) = Some (text_or_mark value ++ further_values values)
 
 -- the first value
 abbrev pub first_text : List (List ℕ) → Option (List ℕ)

@@ -21,14 +21,14 @@ abbrev pub kept_fields : RequestHead → List Field
 kept_fields head = map kept_field (map name_and_value head.fields)
 
 -- one more byte in front of the first part
-abbrev pub with_first : ℕ → List (List ℕ) → List (List ℕ)
-with_first b [] = (b ∷ []) ∷ []
-with_first b (part ∷ parts) = (b ∷ part) ∷ parts
+abbrev pub with_first_byte : ℕ → List (List ℕ) → List (List ℕ)
+with_first_byte b [] = (b ∷ []) ∷ []
+with_first_byte b (part ∷ parts) = (b ∷ part) ∷ parts
 
 -- the parts between the commas
 abbrev pub split_commas : List ℕ → List (List ℕ)
 split_commas [] = [] ∷ []
-split_commas (b ∷ bytes) = if b == 44 then [] ∷ split_commas bytes else with_first b (split_commas bytes)
+split_commas (b ∷ bytes) = if b == 44 then [] ∷ split_commas bytes else with_first_byte b (split_commas bytes)
 
 -- the values of the fields with this name
 abbrev pub values_of : List ℕ → List Field → List (List ℕ)
@@ -66,7 +66,7 @@ abbrev pub closes : ℕ → List Field → Bool
 closes minor fields = minor == 0 || has_close fields
 
 -- what a head says: method, target, fields, whether the connection ends after it, and the body's length
-pub record Says : Type 0 where
+pub record HeadSays : Type 0 where
   pub method : List ℕ
   pub target : List ℕ
   pub fields : List Field
@@ -74,7 +74,7 @@ pub record Says : Type 0 where
   pub length : ℕ
 
 -- these bytes are an accepted request head, and say this
-pub record Opens (bytes : List ℕ) (o : Says) : Type 0 where
+pub record Opens (bytes : List ℕ) (o : HeadSays) : Type 0 where
   pub head : RequestHead
   pub reads : ReadsRequest bytes head []
   pub few : length head.fields ≤ 100
@@ -85,11 +85,11 @@ pub record Opens (bytes : List ℕ) (o : Says) : Type 0 where
   pub declared : declared_length o.fields ≡ Some o.length
 
 -- what was taken from a head
-abbrev pub said : Opened → Says
-said o = record { method = o.method; target = o.target; fields = o.fields.items; close = o.close; length = o.length }
+abbrev pub head_said : Opened → HeadSays
+head_said o = record { method = o.method; target = o.target; fields = o.fields.items; close = o.close; length = o.length }
 
 -- a head is opened exactly where it is accepted
 abbrev pub OpensOr : List ℕ → Result Opened HeadFault → Type 0
-OpensOr bytes (Ok o) = Opens bytes (said o)
-OpensOr bytes (Err fault.Bad) = (o : Says) → ¬ (Opens bytes o)
+OpensOr bytes (Ok o) = Opens bytes (head_said o)
+OpensOr bytes (Err fault.Bad) = (o : HeadSays) → ¬ (Opens bytes o)
 OpensOr bytes (Err fault.Memory) = Unit {0}

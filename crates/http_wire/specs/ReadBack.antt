@@ -6,10 +6,10 @@ use Rattle.http_wire.specs.declared.faults.WireFault.{WireFault}
 use Rattle.http_wire.specs.declared.message.Field.{Field}
 use Rattle.http_wire.specs.declared.message.Message.{Message}
 use Rattle.http_wire.specs.declared.response.Response.{Response}
-use Rattle.http_wire.specs.Answers.{Gives, IsInside}
+use Rattle.http_wire.specs.Answers.{GivesMessage, IsInside}
 use Rattle.http_wire.specs.Framings.{text_or_mark}
-use Rattle.http_wire.specs.Heads.{Says, kept_field}
-use Rattle.http_wire.specs.Messages.{Carries}
+use Rattle.http_wire.specs.Heads.{HeadSays, kept_field}
+use Rattle.http_wire.specs.Messages.{IsMessageOf}
 use Rattle.http_wire.specs.ReplyAnswers.{MayAnswer, IsSettled}
 
 -- a field, as it is written
@@ -36,7 +36,7 @@ call_fields host id count =
     ∷ (written (codes "connection") (codes "close") ∷ [])))))
 
 -- what the head of a call says
-abbrev pub call_says : List ℕ → List ℕ → Option Field → ℕ → Says
+abbrev pub call_says : List ℕ → List ℕ → Option Field → ℕ → HeadSays
 call_says path host id count = record {
   method = codes "POST";
   target = path;
@@ -46,17 +46,17 @@ call_says path host id count = record {
 }
 
 -- the answer is the message that this head and this body make
-abbrev pub IsTheMessage : Says → List ℕ → Result (Option Message) WireFault → Type 0
-IsTheMessage o body (Ok (Some m)) = Carries m o × (m.body ≡ body)
+abbrev pub IsTheMessage : HeadSays → List ℕ → Result (Option Message) WireFault → Type 0
+IsTheMessage o body (Ok (Some m)) = IsMessageOf m o × (m.body ≡ body)
 IsTheMessage o body (Ok None) = ⊥
 IsTheMessage o body (Err e) = ⊥
 
 -- whatever follows these bytes, they are read as one message, that of this head and this body, and what follows is
 -- left for the next one
-abbrev pub AreOneMessage : List ℕ → Says → List ℕ → Type 0
+abbrev pub AreOneMessage : List ℕ → HeadSays → List ℕ → Type 0
 AreOneMessage bytes o body =
     (more rest : List ℕ) (answer : Result (Option Message) WireFault)
-    → IsInside answer → Gives (bytes ++ more) answer rest → IsTheMessage o body answer × (rest ≡ more)
+    → IsInside answer → GivesMessage (bytes ++ more) answer rest → IsTheMessage o body answer × (rest ≡ more)
 
 -- a text, as it is read: without the white space around it
 abbrev pub read_text : Option (List ℕ) → Option (List ℕ)

@@ -17,7 +17,7 @@ pub record BeginsReply (bytes : List ℕ) (n : ℕ) (h : ReplyHead) : Type 0 whe
   pub opens : OpensReply (take n bytes) h
 
 -- the reply says what this head says
-pub record Answers (reply : Reply) (h : ReplyHead) : Type 0 where
+pub record IsReplyOf (reply : Reply) (h : ReplyHead) : Type 0 where
   pub status : reply.status ≡ h.status
   pub cache_control : reply.cache_control ≡ h.cache_control
   pub age : reply.age ≡ h.age
@@ -27,7 +27,7 @@ pub record IsReply (bytes : List ℕ) (reply : Reply) (after : Option (List ℕ)
   pub n : ℕ
   pub h : ReplyHead
   pub begins : BeginsReply bytes n h
-  pub answers : Answers reply h
+  pub answers : IsReplyOf reply h
   pub body : HasBody h.framing (drop n bytes) reply.body after
 
 -- the first head of these bytes, of n bytes, is no accepted one, or no body can follow it, whatever comes

@@ -1,7 +1,7 @@
 ghost use Rattle.std.specs.Prelude.{◌≡◌, ◌≤◌};
 ghost use Rattle.http_wire.specs.Answers.{GivesWhereTold};
-ghost use Rattle.http_wire.specs.Heads.{said};
-ghost use Rattle.http_wire.specs.Messages.{Carries, Reads};
+ghost use Rattle.http_wire.specs.Heads.{head_said};
+ghost use Rattle.http_wire.specs.Messages.{IsMessageOf, ReadsMessage};
 
 use crate::body::gather_to;
 use crate::gather::gather_head;
@@ -12,7 +12,7 @@ use std::alloc::Global;
 
 const MOST_OF_A_BODY: u64 = 1048576;
 
-/// Reads one message, from the bytes that are kept and then from the source; None where the input ends
+/// ReadsMessage one message, from the bytes that are kept and then from the source; None where the input ends
 /// between messages. What is read and not used is kept, and a fault leaves all that there was; the
 /// connection is then not to be read again. For every way in which the source cuts its bytes the answer
 /// and what is left are those of the bytes alone, but for `Failed`, `Memory`, and the number in
@@ -22,7 +22,7 @@ pub fn read_message<S: Source>(
     source: &mut S,
     kept: &mut Kept,
 ) -> Result<Option<Message>, WireFault>
-    ensures reads { Reads kept.old kept.new (S.left source.old) (S.left source.new)
+    ensures reads { ReadsMessage kept.old kept.new (S.left source.old) (S.left source.new)
         (S.faults source.old) (S.faults source.new) result }
     ensures later { S.faults source.old ≤ S.faults source.new }
     ensures gives { GivesWhereTold kept.old kept.new (S.left source.old) (S.left source.new)
@@ -36,7 +36,7 @@ fn read_one<S: Source>(
     source: &mut S,
     kept: &mut Kept,
 ) -> Result<Option<Message>, WireFault>
-    ensures reads { Reads kept.old kept.new (S.left source.old) (S.left source.new)
+    ensures reads { ReadsMessage kept.old kept.new (S.left source.old) (S.left source.new)
         (S.faults source.old) (S.faults source.new) result }
     ensures later { S.faults source.old ≤ S.faults source.new }
 {
@@ -67,7 +67,7 @@ fn read_one<S: Source>(
 }
 
 fn with_body(opened: Opened, body: Bytes) -> Message
-    ensures head { Carries result (said opened) }
+    ensures head { IsMessageOf result (head_said opened) }
     ensures body { result.body ≡ body }
 {
     let Opened {

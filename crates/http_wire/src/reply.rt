@@ -1,5 +1,5 @@
 ghost use Rattle.std.specs.Prelude.{◌≡◌, ◌≤◌};
-ghost use Rattle.http_wire.specs.Replies.{ReplyOr, Answers};
+ghost use Rattle.http_wire.specs.Replies.{ReplyOr, IsReplyOf};
 
 use crate::gather::gather_head;
 use crate::head::HeadFault;
@@ -38,7 +38,7 @@ pub fn read_reply_message<S: Source>(alloc: Global, source: &mut S) -> Result<Re
 }
 
 fn with_body(head: ReplyHead, body: Bytes) -> Reply
-    ensures head { Answers result head }
+    ensures head { IsReplyOf result head }
     ensures body { result.body ≡ body }
 {
     let ReplyHead {

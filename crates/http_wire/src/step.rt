@@ -1,7 +1,7 @@
 ghost use Rattle.std.specs.Prelude.{◌≢◌, ◌≤◌, length};
 ghost use Rattle.httparse.specs.Grammar.{ChunkLine};
 ghost use Rattle.httparse.specs.Spans.{IsChunkLineAt};
-ghost use Rattle.http_wire.specs.Chunks.{Begins};
+ghost use Rattle.http_wire.specs.Chunks.{BeginsChunks};
 
 use crate::empty_line::empty_line_end;
 use httparse::{Status, parse_chunk_size};
@@ -36,7 +36,7 @@ pub(crate) enum Step {
 
 // Reads the chunk that stands first (RFC 9112, section 7.1).
 pub(crate) fn step_of(bytes: &[u8]) -> Step
-    ensures { Begins bytes.now result }
+    ensures { BeginsChunks bytes.now result }
 {
     match parse_chunk_size(bytes) {
         Err(_) => Step::Bad,
@@ -48,7 +48,7 @@ pub(crate) fn step_of(bytes: &[u8]) -> Step
 
 fn last_step(bytes: &[u8], from: usize) -> Step
     requires line { (l : ChunkLine) × IsChunkLineAt bytes.now from 0 l }
-    ensures { Begins bytes.now result }
+    ensures { BeginsChunks bytes.now result }
 {
     match empty_line_end(bytes, from, bytes.len()) {
         None => Step::More(Want::EmptyLine(from)),
@@ -60,7 +60,7 @@ fn data_step(bytes: &[u8], from: usize, size: u64) -> Step
     requires line { (l : ChunkLine) × IsChunkLineAt bytes.now from size l }
     requires within { from ≤ length bytes.now }
     requires some { size ≢ 0 }
-    ensures { Begins bytes.now result }
+    ensures { BeginsChunks bytes.now result }
 {
     let left = bytes.len() - from;
     if left as u64 <= size {

@@ -13,8 +13,8 @@ use Rattle.json_value.specs.Grammar.{has}
 use Rattle.json_members.specs.declared.digests.Digests.{Digests}
 use Rattle.json_members.specs.declared.open_members.Index.{Index}
 use Rattle.json_members.specs.declared.open_members.Index.TheVariants.{OneByOne, ByDigest, ByName}
-use Rattle.json_members.specs.Covers.{Covers}
-use Rattle.json_members.specs.Slots.{digest_of, has_digest, Keeps}
+use Rattle.json_members.specs.Covers.{IndexesNames}
+use Rattle.json_members.specs.Slots.{digest_of, has_digest, KeepsDigests}
 
 either_way : (a b : Bool) → cond a true b ≡ (b || a)
 either_way true true = refl
@@ -34,12 +34,12 @@ has_more [] n x k = or_false (bytes_eq n k)
     or_false false = refl
 has_more (y ∷ ms) n x k = ap (λ (b : Bool). bytes_eq y.0 k || b) (has_more ms n x k) ∙ regroup (bytes_eq y.0 k) (has ms k) (bytes_eq n k)
 
-pub covers_same : (index : Index) (p q : List ℕ → Bool) → ((k : List ℕ) → q k ≡ p k) → Covers index p → Covers index q
+pub covers_same : (index : Index) (p q : List ℕ → Bool) → ((k : List ℕ) → q k ≡ p k) → IndexesNames index p → IndexesNames index q
 covers_same OneByOne p q same covers = tt
 covers_same (ByDigest t) p q same covers = λ k is. covers k (sym (same k) ∙ is)
 covers_same (ByName s) p q same covers = λ k. covers k ∙ sym (same k)
 
-pub covers_push : (index : Index) (ms ms' : List (List ℕ × Json)) (n : List ℕ) (x : Json) → Covers index (λ k. has ms k || bytes_eq n k) → ms' ≡ ms ++ ((n, x) ∷ []) → Covers index (has ms')
+pub covers_push : (index : Index) (ms ms' : List (List ℕ × Json)) (n : List ℕ) (x : Json) → IndexesNames index (λ k. has ms k || bytes_eq n k) → ms' ≡ ms ++ ((n, x) ∷ []) → IndexesNames index (has ms')
 covers_push index ms ms' n x covers grown =
     covers_same index (λ k. has ms k || bytes_eq n k) (has ms') (λ k. ap (λ (q : List (List ℕ × Json)). has q k) grown ∙ has_more ms n x k) covers
 
@@ -65,12 +65,12 @@ name_step s t ms i d lt same updates k = name_put s t (get_or ms i d).0 (take i 
 abbrev pub HasAll : Digests → (List ℕ → Bool) → Type 0
 HasAll t named = (k : List ℕ) → named k ≡ true → has_digest t (digest_of k) ≡ true
 
-pub digest_put : (t t' : Digests) (n : List ℕ) (d : ℕ) (ms : List (List ℕ × Json)) → HasAll t (has ms) → d ≡ digest_of n → has_digest t' d ≡ true → Keeps t t' → HasAll t' (λ k. has ms k || bytes_eq n k)
+pub digest_put : (t t' : Digests) (n : List ℕ) (d : ℕ) (ms : List (List ℕ × Json)) → HasAll t (has ms) → d ≡ digest_of n → has_digest t' d ≡ true → KeepsDigests t t' → HasAll t' (λ k. has ms k || bytes_eq n k)
 digest_put t t' n d ms all of there keeps k is = elim (or_cases (has ms k) (bytes_eq n k) is) [
   | inl h ↦ keeps (digest_of k) (all k h)
   | inr h ↦ subst (λ (q : List ℕ). has_digest t' (digest_of q) ≡ true) ((bytes_eq-Decides n k).0 h) (subst (λ (e : ℕ). has_digest t' e ≡ true) of there)
 ]
 
 pub digest_step : (t t' : Digests) (ms : List (List ℕ × Json)) (i : ℕ) (m : List ℕ × Json) (d : ℕ) → i < length ms → HasAll t (has (take i ms)) → d ≡ digest_of (get_or ms i m).0 → has_digest t' d ≡ true
-    → Keeps t t' → HasAll t' (has (take (i + 1) ms))
+    → KeepsDigests t t' → HasAll t' (has (take (i + 1) ms))
 digest_step t t' ms i m d lt all of there keeps k is = digest_put t t' (get_or ms i m).0 d (take i ms) all of there keeps k (sym (has_step ms i m lt k) ∙ is)

@@ -8,7 +8,7 @@ use Rattle.json_members.specs.declared.open_members.Index.TheVariants.{OneByOne,
 use Rattle.json_members.specs.Slots.{digest_of, has_digest}
 
 -- the digests of these names may be with others, and the names themselves are not
-abbrev pub Covers : Index → (List ℕ → Bool) → Type 0
-Covers OneByOne named = Unit {0}
-Covers (ByDigest t) named = (k : List ℕ) → named k ≡ true → has_digest t.value (digest_of k) ≡ true
-Covers (ByName s) named = (k : List ℕ) → contains (slice_cmp nat_cmp) s.value k ≡ named k
+abbrev pub IndexesNames : Index → (List ℕ → Bool) → Type 0
+IndexesNames OneByOne named = Unit {0}
+IndexesNames (ByDigest t) named = (k : List ℕ) → named k ≡ true → has_digest t.value (digest_of k) ≡ true
+IndexesNames (ByName s) named = (k : List ℕ) → contains (slice_cmp nat_cmp) s.value k ≡ named k

@@ -7,12 +7,12 @@ use Rattle.json_members.specs.declared.digests.Digests.{Digests}
 unfoldable pub digest_of : List ℕ → ℕ
 digest_of name = folding.finish (folding.write folding.initial name)
 
--- how many slots come before the first that is empty or has this digest
-abbrev pub before : List ℕ → ℕ → ℕ
-before [] d = 0
-before (s ∷ ss) d = cond (s == 0 || s == d) 0 (suc (before ss d))
+-- how many slots come slots_before the first that is empty or has this digest
+abbrev pub slots_before : List ℕ → ℕ → ℕ
+slots_before [] d = 0
+slots_before (s ∷ ss) d = cond (s == 0 || s == d) 0 (suc (slots_before ss d))
 
--- whether one of the slots before the first that is empty has this digest
+-- whether one of the slots slots_before the first that is empty has this digest
 abbrev pub stands : List ℕ → ℕ → Bool
 stands [] d = false
 stands (s ∷ ss) d = not (s == 0) && (s == d || stands ss d)
@@ -22,5 +22,5 @@ abbrev pub has_digest : Digests → ℕ → Bool
 has_digest t d = stands (drop (bit_and d t.mask) t.slots.items) d
 
 -- each digest of the first table is in the second
-abbrev pub Keeps : Digests → Digests → Type 0
-Keeps t t' = (d : ℕ) → has_digest t d ≡ true → has_digest t' d ≡ true
+abbrev pub KeepsDigests : Digests → Digests → Type 0
+KeepsDigests t t' = (d : ℕ) → has_digest t d ≡ true → has_digest t' d ≡ true

@@ -1,7 +1,7 @@
 //! Digests of the names of one object.
 
 ghost use Rattle.std.specs.Prelude.{◌≡◌, ◌≢◌, ◌+◌, ◌<◌, ◌≤◌, ℕ, length, drop, false, true, IfOk, IfSome, IsTrue};
-ghost use Rattle.json_members.specs.Slots.{digest_of, before, has_digest, Keeps};
+ghost use Rattle.json_members.specs.Slots.{digest_of, slots_before, has_digest, KeepsDigests};
 
 #[cfg(test)]
 mod tests;
@@ -34,7 +34,7 @@ pub fn digest(name: &Text) -> u64
 /// Where the digest stands or would be put, from its own slot on; none where it would be out of reach.
 fn place(slots: &[u64], first: usize, digest: u64) -> Option<usize>
     ensures within { IfSome result (λ i. i < length slots.now) }
-    ensures place { IfSome result (λ i. i ≡ first + before (drop first slots.now) digest) }
+    ensures place { IfSome result (λ i. i ≡ first + slots_before (drop first slots.now) digest) }
 {
     let end = slots.len().min(first.saturating_add(REACH));
     for i in first..end {
@@ -71,7 +71,7 @@ impl Digests {
     /// Puts a digest in, if there is a place for it. There is none for 0.
     fn put(&mut self, digest: u64) -> bool
         ensures has { IsTrue result → has_digest self.new digest ≡ true }
-        ensures keeps { Keeps self.old self.new }
+        ensures keeps { KeepsDigests self.old self.new }
     {
         if digest == 0 {
             return false;
@@ -88,7 +88,7 @@ impl Digests {
 
     fn put_slot(&mut self, slot: u64) -> bool
         ensures has { IsTrue result → slot ≢ 0 → has_digest self.new slot ≡ true }
-        ensures keeps { Keeps self.old self.new }
+        ensures keeps { KeepsDigests self.old self.new }
     {
         if slot == 0 {
             return true;
@@ -98,7 +98,7 @@ impl Digests {
 
     /// Its digests in twice the room; none where one of them finds no place.
     fn wider(&self, alloc: Global) -> Result<Option<Digests>, Memory>
-        ensures { IfOk result (λ found. IfSome found (Keeps self.now)) }
+        ensures { IfOk result (λ found. IfSome found (KeepsDigests self.now)) }
     {
         let mut wider = Digests::new(alloc, self.mask.saturating_mul(2) | 1)?;
         for i in 0..self.slots.len() {
@@ -111,7 +111,7 @@ impl Digests {
 
     /// Sees to it that half of the slots are empty, and says whether they are.
     fn widen(&mut self, alloc: Global) -> Result<bool, Memory>
-        ensures { IfOk result (λ _. Keeps self.old self.new) }
+        ensures { IfOk result (λ _. KeepsDigests self.old self.new) }
     {
         if self.held <= self.mask / 2 {
             return Ok(true);
@@ -128,7 +128,7 @@ impl Digests {
     /// Puts a digest in, and says whether there was a place for it.
     pub fn add(&mut self, alloc: Global, digest: u64) -> Result<bool, Memory>
         ensures has { IfOk result (λ done. IsTrue done → has_digest self.new digest ≡ true) }
-        ensures keeps { IfOk result (λ _. Keeps self.old self.new) }
+        ensures keeps { IfOk result (λ _. KeepsDigests self.old self.new) }
     {
         if !self.widen(alloc)? {
             return Ok(false);

@@ -6,7 +6,7 @@ ghost use Rattle.std.specs.Cmp.Lexicographic.{slice_cmp};
 ghost use Rattle.std.specs.Ordering.{nat_cmp};
 ghost use Rattle.std.specs.Str.{bytes_eq};
 ghost use Rattle.json_value.specs.Grammar as grammar;
-ghost use Rattle.json_members.specs.Covers.{Covers};
+ghost use Rattle.json_members.specs.Covers.{IndexesNames};
 ghost use Rattle.json_members.specs.Slots.{digest_of, has_digest};
 ghost use Rattle.json_members.specs.declared.open_members.Index.TheVariants.{ByDigest};
 
@@ -52,11 +52,11 @@ impl Model for Members {
     ghost coded = { Prim.hlevel (codes, json.the_row.coded) };
 
     ghost use Rattle.json_value.specs.Grammar.{has};
-    ghost use Rattle.json_members.specs.Covers.{Covers};
+    ghost use Rattle.json_members.specs.Covers.{IndexesNames};
 
     ghost view = { λ m. m.list };
 
-    ghost invariant = { λ m. Covers m.index (has m.list) };
+    ghost invariant = { λ m. IndexesNames m.index (has m.list) };
 }
 
 /// Whether one of the members has this name.
@@ -112,7 +112,7 @@ fn digests_of(alloc: Global, members: &[(Text, Json)]) -> Result<Option<Digests>
 impl Index {
     /// Whether one of the members has this name, if the index can tell.
     fn tells(&self, members: &[(Text, Json)], name: &Text) -> Option<bool>
-        requires { Covers self.now (grammar.has members.now) }
+        requires { IndexesNames self.now (grammar.has members.now) }
         ensures { IfSome result (λ b. b ≡ grammar.has members.now name.now) }
     {
         match self {
@@ -131,7 +131,7 @@ impl Index {
     fn of_names(alloc: Global, names: BTreeSet<Text>) -> Result<Index, Memory>
         ensures { IfOk result
             (λ index. (named : List ℕ → Bool)
-            → ((k : List ℕ) → contains (slice_cmp nat_cmp) names k ≡ named k) → Covers index named) }
+            → ((k : List ℕ) → contains (slice_cmp nat_cmp) names k ≡ named k) → IndexesNames index named) }
     {
         match Box::new(alloc, names) {
             Ok(names) => Ok(Index::ByName(names)),
@@ -141,7 +141,7 @@ impl Index {
 
     /// An index of the names of these members and of one more.
     fn by_name(alloc: Global, members: &[(Text, Json)], name: &Text) -> Result<Index, Memory>
-        ensures { IfOk result (λ index. Covers index
+        ensures { IfOk result (λ index. IndexesNames index
             (λ k. grammar.has members.now k || bytes_eq name.now k)) }
     {
         let names = names_of(alloc, members)?;
@@ -155,8 +155,8 @@ impl Index {
         members: &[(Text, Json)],
         name: &Text,
     ) -> Result<Index, Memory>
-        requires { Covers (ByDigest digests) (grammar.has members.now) }
-        ensures { IfOk result (λ index. Covers index
+        requires { IndexesNames (ByDigest digests) (grammar.has members.now) }
+        ensures { IfOk result (λ index. IndexesNames index
             (λ k. grammar.has members.now k || bytes_eq name.now k)) }
     {
         let mut digests = digests;
@@ -167,7 +167,7 @@ impl Index {
     }
 
     fn of_many(alloc: Global, members: &[(Text, Json)], name: &Text) -> Result<Index, Memory>
-        ensures { IfOk result (λ index. Covers index
+        ensures { IfOk result (λ index. IndexesNames index
             (λ k. grammar.has members.now k || bytes_eq name.now k)) }
     {
         match digests_of(alloc, members)? {
@@ -181,8 +181,8 @@ impl Index {
 
     /// With one more name than those of these members.
     fn with(self, alloc: Global, members: &[(Text, Json)], name: &Text) -> Result<Index, Memory>
-        requires { Covers self (grammar.has members.now) }
-        ensures { IfOk result (λ index. Covers index
+        requires { IndexesNames self (grammar.has members.now) }
+        ensures { IfOk result (λ index. IndexesNames index
             (λ k. grammar.has members.now k || bytes_eq name.now k)) }
     {
         match self {

@@ -10,7 +10,7 @@ use Rattle.json_paths.specs.declared.path.Spot.TheVariants as spot
 use Rattle.json_paths.specs.declared.path.Path.{Path}
 use Rattle.json_paths.specs.declared.path.Place.{Place}
 use Rattle.json_paths.specs.Parts.{at, elements}
-use Rattle.json_paths.specs.Places.{below, under, in_part, in_each, spots_in, places_of, Follows, IsPlaceOf}
+use Rattle.json_paths.specs.Places.{below, places_under, in_part, in_each, spots_in, places_of, GoesAlong, IsPlaceOf}
 use Rattle.json_paths.proofs.Among.{Among, Among-append_cases, Among-append_left, Among-append_right, Among-from_contains, Contains-from_among}
 
 -- spots that begin with s and go on with one of these
@@ -29,12 +29,12 @@ below-Among s [] rest has = absurd has
 below-Among s (q ∷ ps) rest (inl e) = inl (ap (λ (r : List Spot). s ∷ r) e)
 below-Among s (q ∷ ps) rest (inr later) = inr (below-Among s ps rest later)
 
-Among-under : (ps : List (List Spot)) (place : Place) → Among place (under [] ps) → Among place.spots ps
+Among-under : (ps : List (List Spot)) (place : Place) → Among place (places_under [] ps) → Among place.spots ps
 Among-under [] place has = absurd has
 Among-under (q ∷ ps) place (inl e) = inl (ap (λ (p : Place). p.spots) e)
 Among-under (q ∷ ps) place (inr later) = inr (Among-under ps place later)
 
-under-Among : (ps : List (List Spot)) (place : Place) → Among place.spots ps → Among place (under [] ps)
+under-Among : (ps : List (List Spot)) (place : Place) → Among place.spots ps → Among place (places_under [] ps)
 under-Among [] place has = absurd has
 under-Among (q ∷ ps) place (inl e) = inl (ap (λ (s : List Spot). let p : Place = record { spots = s } in p) e)
 under-Among (q ∷ ps) place (inr later) = inr (under-Among ps place later)
@@ -97,7 +97,7 @@ onward ss o inner is there = rw is there
 
 -- the spots go as the steps do, and there is a part there
 record Leads (v : Json) (steps : List Step) (spots : List Spot) : Type 0 where
-  follows : Follows steps spots
+  follows : GoesAlong steps spots
   is_there : IsSome (at v spots)
 
 sound : (steps : List Step) (v : Json) (spots : List Spot) → Among spots (spots_in v steps) → Leads v steps spots
@@ -116,7 +116,7 @@ sound (step.Each ∷ steps) v spots among =
     let parts : spots ≡ spot.Index p.index ∷ p.rest = p.parts ∙ ap (λ n. spot.Index n ∷ p.rest) e in
     subst (λ (s : List Spot). Leads v (step.Each ∷ steps) s) (sym parts) (record { follows = l.follows; is_there = there })
 
-complete : (steps : List Step) (v : Json) (spots : List Spot) → Follows steps spots → IsSome (at v spots) → Among spots (spots_in v steps)
+complete : (steps : List Step) (v : Json) (spots : List Spot) → GoesAlong steps spots → IsSome (at v spots) → Among spots (spots_in v steps)
 complete [] v [] follows there = inl refl
 complete [] v (s ∷ spots) follows there = absurd follows
 complete (step.Name name ∷ steps) v [] follows there = absurd follows

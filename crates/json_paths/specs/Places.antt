@@ -31,21 +31,21 @@ spots_in v (step.Name name ∷ steps) = in_part (λ inner. spots_in inner steps)
 spots_in v (step.Each ∷ steps) = in_each (λ inner. spots_in inner steps) 0 (elements v)
 
 -- the places that begin with these spots
-abbrev pub under : List Spot → List (List Spot) → List Place
-under spots [] = []
-under spots (p ∷ ps) = record { spots = spots ++ p } ∷ under spots ps
+abbrev pub places_under : List Spot → List (List Spot) → List Place
+places_under spots [] = []
+places_under spots (p ∷ ps) = record { spots = spots ++ p } ∷ places_under spots ps
 
 abbrev pub places_of : Json → Path → List Place
-places_of v path = under [] (spots_in v path.steps)
+places_of v path = places_under [] (spots_in v path.steps)
 
 -- the spots go step by step as the path does
-abbrev pub Follows : List Step → List Spot → Type 0
-Follows [] [] = Unit {0}
-Follows (step.Name name ∷ steps) (spot.Name other ∷ spots) = (name ≡ other) × Follows steps spots
-Follows (step.Each ∷ steps) (spot.Index index ∷ spots) = Follows steps spots
-Follows _ _ = ⊥
+abbrev pub GoesAlong : List Step → List Spot → Type 0
+GoesAlong [] [] = Unit {0}
+GoesAlong (step.Name name ∷ steps) (spot.Name other ∷ spots) = (name ≡ other) × GoesAlong steps spots
+GoesAlong (step.Each ∷ steps) (spot.Index index ∷ spots) = GoesAlong steps spots
+GoesAlong _ _ = ⊥
 
 -- the place goes as the path does, and there is a part of the value there
 pub record IsPlaceOf (v : Json) (path : Path) (place : Place) : Type 0 where
-  pub follows : Follows path.steps place.spots
+  pub follows : GoesAlong path.steps place.spots
   pub is_there : IsSome (at v place.spots)

@@ -1,7 +1,7 @@
 ghost use Rattle.std.specs.Prelude.{◌≡◌, ◌++◌, ◌∷◌, ◌↔◌, OnOk, IfOk, Contains};
 ghost use Rattle.json_paths.specs.declared.path.Place.{Place};
 ghost use Rattle.json_paths.specs.declared.path.Step.TheVariants as step;
-ghost use Rattle.json_paths.specs.Places.{under, spots_in, places_of, IsPlaceOf};
+ghost use Rattle.json_paths.specs.Places.{places_under, spots_in, places_of, IsPlaceOf};
 
 use crate::part::elements_of;
 use crate::path::{Path, Place, Spot, Step, copy_spots, enter, leave};
@@ -35,7 +35,7 @@ fn walk(
     found: &mut Vec<Place>,
 ) -> Result<(), Memory>
     ensures places { OnOk result
-        (found.new.items ≡ found.old.items ++ under spots.old.items (spots_in value.now steps.now)) }
+        (found.new.items ≡ found.old.items ++ places_under spots.old.items (spots_in value.now steps.now)) }
     ensures back { OnOk result (spots.new.items ≡ spots.old.items) }
 {
     match steps {
@@ -60,7 +60,7 @@ fn walk_member(
 ) -> Result<(), Memory>
     ensures places { OnOk result
         (found.new.items ≡ found.old.items
-        ++ under spots.old.items (spots_in value.now (step.Name name.now ∷ steps.now))) }
+        ++ places_under spots.old.items (spots_in value.now (step.Name name.now ∷ steps.now))) }
     ensures back { OnOk result (spots.new.items ≡ spots.old.items) }
 {
     if let Some(inner) = member(value, name.as_str()) {
@@ -81,7 +81,7 @@ fn walk_each(
 ) -> Result<(), Memory>
     ensures places { OnOk result
         (found.new.items ≡ found.old.items
-        ++ under spots.old.items (spots_in value.now (step.Each ∷ steps.now))) }
+        ++ places_under spots.old.items (spots_in value.now (step.Each ∷ steps.now))) }
     ensures back { OnOk result (spots.new.items ≡ spots.old.items) }
 {
     let items = elements_of(value);

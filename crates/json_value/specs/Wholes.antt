@@ -10,5 +10,5 @@ use Rattle.json_value.specs.Numbers.{IsInt}
 abbrev pub IsWholeText : List ℕ → ℕ → Type 0
 IsWholeText text n = IsInt text × (length text ≤ 15) × (n ≡ digits_value 10 text)
 
-abbrev pub IsWhole : Json → ℕ → Type 0
-IsWhole value n = (text : List ℕ) × (value ≡ j.Number text) × IsWholeText text n
+abbrev pub IsWholeNumber : Json → ℕ → Type 0
+IsWholeNumber value n = (text : List ℕ) × (value ≡ j.Number text) × IsWholeText text n

@@ -8,13 +8,13 @@ use Rattle.json_value.specs.Members.{named}
 use Rattle.json_value.specs.Recursion.{by_parts}
 use Rattle.json_value.proofs.Parts.{with_made, member_made, by_parts-null, by_parts-bool, by_parts-number, by_parts-string, by_parts-list, by_parts-object}
 use Rattle.json_value.proofs.Cases.{Kind, kind_of, is_null, is_bool, is_number, is_string, is_list, is_object, out-null, out-bool, out-number, out-string, out-list, out-object}
-use Rattle.merge_paths.specs.Merge.{Part, merged, merge, members, elements, with, without}
+use Rattle.merge_paths.specs.Merge.{MergePart, merged, merge, members_with, elements_with, with_other, without}
 use Rattle.merge_paths.specs.Levels.{merged_with, merged_members, merged_elements}
 
-abbrev step : Json → Json-F Part → Json → Json
+abbrev step : Json → Json-F MergePart → Json → Json
 step a parts b = merged a parts b (out-Json b)
 
-elements_merged : (xs ys : List Json) → elements (map (with_made step) xs) ys ≡ merged_elements xs ys
+elements_merged : (xs ys : List Json) → elements_with (map (with_made step) xs) ys ≡ merged_elements xs ys
 unfolding merge
 elements_merged [] ys = refl
 elements_merged (x ∷ xs) [] = ap (λ (zs : List Json). x ∷ zs) (elements_merged xs [] ∙ none xs)
@@ -24,12 +24,12 @@ elements_merged (x ∷ xs) [] = ap (λ (zs : List Json). x ∷ zs) (elements_mer
     none (x ∷ xs) = refl
 elements_merged (x ∷ xs) (y ∷ ys) = ap (λ (zs : List Json). merge x y ∷ zs) (elements_merged xs ys)
 
-with_merged : (v : Json) (o : Option Json) → with (with_made step v) o ≡ merged_with v o
+with_merged : (v : Json) (o : Option Json) → with_other (with_made step v) o ≡ merged_with v o
 unfolding merge
 with_merged v None = refl
 with_merged v (Some other) = refl
 
-members_merged : (ms others : List (List ℕ × Json)) → members (map (member_made step) ms) others ≡ merged_members ms others
+members_merged : (ms others : List (List ℕ × Json)) → members_with (map (member_made step) ms) others ≡ merged_members ms others
 unfolding merge
 members_merged [] others = refl
 members_merged (m ∷ ms) others = rw (with_merged m.1 (named m.0 others), members_merged ms (without m.0 others)) refl
@@ -46,7 +46,7 @@ merge-lists xs others = (λ i. by_parts-list step xs i (json.List others))
     ∙ ap (merged (json.List xs) (Json-F.List (map (with_made step) xs)) (json.List others)) (out-list others)
     ∙ ap json.List (elements_merged xs others)
 
-under : (a b : Json) (o : Json-F Json) → out-Json b ≡ o → (c : Json) → ((parts : Json-F Part) → merged a parts b o ≡ c) → Kind a → merge a b ≡ c
+under : (a b : Json) (o : Json-F Json) → out-Json b ≡ o → (c : Json) → ((parts : Json-F MergePart) → merged a parts b o ≡ c) → Kind a → merge a b ≡ c
 unfolding merge
 under _ b o is c same is_null = (λ i. by_parts-null step i b) ∙ ap (merged json.Null Json-F.Null b) is ∙ same Json-F.Null
 under _ b o is c same (is_bool x) = (λ i. by_parts-bool step x i b) ∙ ap (merged (json.Bool x) (Json-F.Bool x) b) is ∙ same (Json-F.Bool x)

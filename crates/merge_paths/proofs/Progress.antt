@@ -5,7 +5,7 @@ use Rattle.std.specs.Str.{bytes_eq}
 use Rattle.std.proofs.lemmas.List.{take_more_set, drop-set-lt, length-set, drop_all, append-nil, set-set, drop-drop, take_all, take-append-drop, set-get_or, get_or_default, take_more}
 use Rattle.json_value.specs.declared.tree.Json.{Json}
 use Rattle.json_value.specs.Members.{named}
-use Rattle.merge_paths.specs.Merge.{merge, without, IsFirst}
+use Rattle.merge_paths.specs.Merge.{merge, without, IsFirstNamed}
 use Rattle.std.proofs.lemmas.Bool.{cases_lt}
 use Rattle.json_paths.specs.declared.path.Place.{Place}
 use Rattle.merge_paths.specs.Placing.{named_changed, element_changed, with_entities}
@@ -146,28 +146,28 @@ pub passed : (name : List ℕ) (ms : List (List ℕ × Json)) (i : ℕ) (m : Lis
 passed name ms i m lt is other absent = rw (take_more ms i m lt, ← is) (none_passed name (take i ms) m absent other)
 
 pub first_is : (name : List ℕ) (ms : List (List ℕ × Json)) (i : ℕ) (m : List ℕ × Json) → i < length ms → m ≡ get_or ms i m → bytes_eq m.0 name ≡ true →
-    named name (take i ms) ≡ None → IsFirst name ms i
+    named name (take i ms) ≡ None → IsFirstNamed name ms i
 first_is name ms i m lt is same absent = record { member = m; here = read ms i m lt is; has_name = same; none_before = absent }
 
 -- what the first member of a name says of those after another member
-behind : (name : List ℕ) (n : List ℕ × Json) (ms : List (List ℕ × Json)) (index : ℕ) → (one : IsFirst name (n ∷ ms) (suc index)) → (bytes_eq n.0 name ≡ false) × IsFirst name ms index
+behind : (name : List ℕ) (n : List ℕ × Json) (ms : List (List ℕ × Json)) (index : ℕ) → (one : IsFirstNamed name (n ∷ ms) (suc index)) → (bytes_eq n.0 name ≡ false) × IsFirstNamed name ms index
 behind name n ms index one = by_name (bytes_eq n.0 name) refl
   where
-    by_name : (b : Bool) → bytes_eq n.0 name ≡ b → (bytes_eq n.0 name ≡ false) × IsFirst name ms index
+    by_name : (b : Bool) → bytes_eq n.0 name ≡ b → (bytes_eq n.0 name ≡ false) × IsFirstNamed name ms index
     by_name true is = let found : named name (n ∷ take index ms) ≡ Some n.1 = rw is refl in let none : named name (n ∷ take index ms) ≡ None = one.none_before in cc
     by_name false is = (is, record { member = one.member; here = one.here; has_name = one.has_name; none_before = (let onward : named name (n ∷ take index ms) ≡ named name (take index ms) = rw is refl in sym onward ∙ one.none_before) })
 
-pub first_named_is : (name : List ℕ) (ms : List (List ℕ × Json)) (index : ℕ) (one : IsFirst name ms index) → named name ms ≡ Some one.member.1
+pub first_named_is : (name : List ℕ) (ms : List (List ℕ × Json)) (index : ℕ) (one : IsFirstNamed name ms index) → named name ms ≡ Some one.member.1
 first_named_is name [] index one = let h = one.here in cc
 first_named_is name (n ∷ ms) zero one = let e : n ≡ one.member = (let h = one.here in cc) in rw (e, one.has_name) refl
 first_named_is name (n ∷ ms) (suc index) one = let b = behind name n ms index one in let same : b.1.member ≡ one.member = (let h = b.1.here in let k = one.here in cc) in rw b.0 (first_named_is name ms index b.1 ∙ ap (λ (m : List ℕ × Json). Some m.1) same)
 
-pub first_without : (name : List ℕ) (ms : List (List ℕ × Json)) (index : ℕ) → IsFirst name ms index → without name ms ≡ remove ms index
+pub first_without : (name : List ℕ) (ms : List (List ℕ × Json)) (index : ℕ) → IsFirstNamed name ms index → without name ms ≡ remove ms index
 first_without name [] index one = let h = one.here in cc
 first_without name (n ∷ ms) zero one = let e : n ≡ one.member = (let h = one.here in cc) in rw (e, one.has_name) refl
 first_without name (n ∷ ms) (suc index) one = let b = behind name n ms index one in rw b.0 (ap (λ (ns : List (List ℕ × Json)). n ∷ ns) (first_without name ms index b.1))
 
-pub first_changed : (f : Json → Json) (name : List ℕ) (ms : List (List ℕ × Json)) (index : ℕ) (one : IsFirst name ms index) →
+pub first_changed : (f : Json → Json) (name : List ℕ) (ms : List (List ℕ × Json)) (index : ℕ) (one : IsFirstNamed name ms index) →
     named_changed f name ms ≡ set ms index (one.member.0, f one.member.1)
 first_changed f name [] index one = let h = one.here in cc
 first_changed f name (n ∷ ms) zero one = let e : n ≡ one.member = (let h = one.here in cc) in rw (e, one.has_name) refl
@@ -219,7 +219,7 @@ all_merged a first b all i far done =
     rw (whole, none) at done.merged
 
 pub named_placed : (f : Json → Json) (name : List ℕ) (ms next left : List (List ℕ × Json)) (index : ℕ) (m hole : List ℕ × Json) (part : Json) →
-    IsFirst name ms index → slice_get ms index ≡ Some m → left ≡ set ms index hole → part ≡ f m.1 → next ≡ set left index (m.0, part) → next ≡ named_changed f name ms
+    IsFirstNamed name ms index → slice_get ms index ≡ Some m → left ≡ set ms index hole → part ≡ f m.1 → next ≡ set left index (m.0, part) → next ≡ named_changed f name ms
 named_placed f name ms next left index m hole part one here taken made changed =
     let h = one.here in
     let same : one.member ≡ m = cc in
@@ -231,7 +231,7 @@ pub element_placed : (f : Json → Json) (xs next left : List Json) (index : ℕ
 element_placed f xs next left index x part hole here taken made changed =
     changed ∙ ap (λ (ys : List Json). set ys index part) taken ∙ set-set xs index hole part ∙ ap (λ (v : Json). set xs index v) made ∙ sym (one_changed f xs index x here)
 
-pub first_within : (name : List ℕ) (ms : List (List ℕ × Json)) (index : ℕ) → IsFirst name ms index → index < length ms
+pub first_within : (name : List ℕ) (ms : List (List ℕ × Json)) (index : ℕ) → IsFirstNamed name ms index → index < length ms
 first_within name ms index one = within ms index one.member one.here
 
 no_entities : (v : Json) (used_by : List (List Place)) → with_entities v used_by [] ≡ v

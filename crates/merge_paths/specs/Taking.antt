@@ -10,14 +10,14 @@ put_last ms name None = ms
 put_last ms name (Some v) = ms ++ ((name, v) ∷ [])
 
 -- the members of these names whose values are there, the last first
-abbrev pub back : List (List ℕ) → List (Option Json) → List (List ℕ × Json)
-back [] values = []
-back (name ∷ names) [] = []
-back (name ∷ names) (o ∷ values) = put_last (back names values) name o
+abbrev pub taken_back : List (List ℕ) → List (Option Json) → List (List ℕ × Json)
+taken_back [] values = []
+taken_back (name ∷ names) [] = []
+taken_back (name ∷ names) (o ∷ values) = put_last (taken_back names values) name o
 
 -- the members that were not taken
-abbrev pub left : Others → List (List ℕ × Json)
-left others = others.listed ++ back others.names.keys others.values.items
+abbrev pub not_taken : Others → List (List ℕ × Json)
+not_taken others = others.listed ++ taken_back others.names.keys others.values.items
 
 -- the index has a name once, and for each name a value or None
 pub record IsIndexed (others : Others) : Type 0 where

@@ -1,6 +1,6 @@
 ghost use Rattle.std.specs.Prelude.{◌≡◌, IfOk, None, MatchOption};
 ghost use Rattle.json_value.specs.Members.{named};
-ghost use Rattle.merge_paths.specs.Merge.{IsFirst};
+ghost use Rattle.merge_paths.specs.Merge.{IsFirstNamed};
 ghost use Rattle.merge_paths.specs.Levels.{merged_members, merged_elements};
 ghost use Rattle.merge_paths.specs.Merge as spec;
 
@@ -84,7 +84,7 @@ pub fn blank(alloc: Global) -> (Text, Json) {
 /// The index of the first member with this name.
 pub fn first_named(members: &[(Text, Json)], name: &str) -> Option<usize>
     ensures { MatchOption result (named name.now members.now ≡ None)
-        (IsFirst name.now members.now) }
+        (IsFirstNamed name.now members.now) }
 {
     for i in 0..members.len() {
         if members[i].0.as_str() == name {

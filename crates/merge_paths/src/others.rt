@@ -3,7 +3,7 @@ ghost use Rattle.std.specs.List.{IsDistinct};
 ghost use Rattle.std.specs.Str.{bytes_eq};
 ghost use Rattle.json_value.specs.Members.{named};
 ghost use Rattle.merge_paths.specs.Merge.{without};
-ghost use Rattle.merge_paths.specs.Taking.{back, left, IsIndexed};
+ghost use Rattle.merge_paths.specs.Taking.{taken_back, not_taken, IsIndexed};
 
 use crate::merging::first_named;
 use flow_base::{Memory, Text};
@@ -27,7 +27,7 @@ pub struct Others {
 impl Others {
     /// These members. More than a few are indexed, from the last one on down to the first whose name comes again.
     pub fn of(alloc: Global, members: Items<(Text, Json)>) -> Result<Others, Memory>
-        ensures members { IfOk result (λ o. left o ≡ members) }
+        ensures members { IfOk result (λ o. not_taken o ≡ members) }
         ensures indexed { IfOk result (λ o. IsIndexed o) }
     {
         let count = members.len();
@@ -50,7 +50,7 @@ impl Others {
     /// Moves the last of the listed members into the index, and says whether it did: its name may be there already.
     fn index_last(&mut self) -> Result<bool, Memory>
         requires { IsIndexed self.old }
-        ensures same { OnOk result (left self.new ≡ left self.old) }
+        ensures same { OnOk result (not_taken self.new ≡ not_taken self.old) }
         ensures indexed { OnOk result (IsIndexed self.new) }
     {
         let Some((name, value)) = self.listed.pop() else {
@@ -68,8 +68,8 @@ impl Others {
     /// Takes the first member with this name out.
     pub fn take(&mut self, name: &Text) -> Option<Json>
         requires { IsIndexed self.old }
-        ensures value { result ≡ named name.now (left self.old) }
-        ensures rest { left self.new ≡ without name.now (left self.old) }
+        ensures value { result ≡ named name.now (not_taken self.old) }
+        ensures rest { not_taken self.new ≡ without name.now (not_taken self.old) }
         ensures indexed { IsIndexed self.new }
     {
         if let Some(value) = take_listed(&mut self.listed, name.as_str()) {
@@ -81,7 +81,7 @@ impl Others {
     /// Appends those that were not taken, in their order.
     pub fn append_to(self, members: &mut Items<(Text, Json)>) -> Result<(), Memory>
         requires { IsIndexed self }
-        ensures { OnOk result (members.new ≡ members.old ++ left self) }
+        ensures { OnOk result (members.new ≡ members.old ++ not_taken self) }
     {
         let Others {
             listed,
@@ -116,9 +116,9 @@ fn take_listed(listed: &mut Items<(Text, Json)>, name: &str) -> Option<Json>
 fn take_indexed(names: &IndexSet<Text>, values: &mut Vec<Option<Json>>, name: &Text) -> Option<Json>
     requires differ { IsDistinct bytes_eq names.now.keys }
     requires long { length values.old.items ≡ length names.now.keys }
-    ensures value { result ≡ named name.now (back names.now.keys values.old.items) }
-    ensures rest { back names.now.keys values.new.items
-        ≡ without name.now (back names.now.keys values.old.items) }
+    ensures value { result ≡ named name.now (taken_back names.now.keys values.old.items) }
+    ensures rest { taken_back names.now.keys values.new.items
+        ≡ without name.now (taken_back names.now.keys values.old.items) }
     ensures long { length values.new.items ≡ length names.now.keys }
 {
     let Some(index) = names.get_index_of(name) else {

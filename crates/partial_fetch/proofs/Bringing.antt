@@ -32,9 +32,9 @@ use Rattle.piece_fetch.specs.declared.slots.Slot.TheVariants as slot
 use Rattle.piece_fetch.specs.Offering.{is_null, is_null_at, pieces_of, brought_of, is_some_error}
 use Rattle.piece_fetch.specs.Coming.{Sends, ComesOf, sent_of, brought_by}
 use Rattle.piece_fetch.specs.Fetching as fetching
-use Rattle.piece_fetch.specs.Fetching.{Fetches, ArePieces}
+use Rattle.piece_fetch.specs.Fetching.{FetchesPieces, AreGathered}
 use Rattle.cache_seam.specs.Hand.{permits_of}
-use Rattle.partial_fetch.specs.Headline.{WasFetched, AreFetched}
+use Rattle.partial_fetch.specs.Headline.{WasFetched, AreFromFetches}
 
 null_at : (x : Json-F Json) → is_null_at x ≡ true → x ≡ Json-F.Null
 null_at Json-F.Null h = refl
@@ -85,17 +85,17 @@ brought_so ask named id (q ∷ qs) entries (Came status verdict p) h = read_from
 
 -- so the pieces of a fetch are what they are said to be
 module _ (entries : List Entry) (line call : ℕ) where
-  asked_for : (b : Bool) (v : Json) (xs : List Json) (os : List Origin) → is_null v ≡ b → (is_null v ≡ false → WasFetched entries v) → AreFetched entries xs os
-      → AreFetched entries (v ∷ xs) ((if b then origin.Absent else origin.Own line call) ∷ os)
+  asked_for : (b : Bool) (v : Json) (xs : List Json) (os : List Origin) → is_null v ≡ b → (is_null v ≡ false → WasFetched entries v) → AreFromFetches entries xs os
+      → AreFromFetches entries (v ∷ xs) ((if b then origin.Absent else origin.Own line call) ∷ os)
   asked_for true v xs os is so rest = (null_is v is, rest)
   asked_for false v xs os is so rest = (so is, rest)
 
-  pieces_fetched : (slots : List Slot) (came : List Brought) (xs : List Json) (os : List Origin) (ls : List (Option Lasts)) → ArePieces line call slots came xs os ls → All (CameSo entries) came → AreFetched entries xs os
+  pieces_fetched : (slots : List Slot) (came : List Brought) (xs : List Json) (os : List Origin) (ls : List (Option Lasts)) → AreGathered line call slots came xs os ls → All (CameSo entries) came → AreFromFetches entries xs os
   pieces_fetched _ _ _ _ _ fetching.no_more so = tt
   pieces_fetched _ _ _ _ _ (fetching.hit l q v t x slots came xs os ls reads rest) so = pieces_fetched slots came xs os ls rest so
   pieces_fetched _ _ _ _ _ (fetching.own one slots came xs os ls rest) so =
       asked_for (is_null one.value) one.value xs os refl (All-head (CameSo entries) one came so) (pieces_fetched slots came xs os ls rest (All-tail (CameSo entries) one came so))
 
-pub fetch_fetched : (ask : Ask) (keys : List Key) (id : Option (List ℕ)) (line call : ℕ) (pass : Pinned) (now : ℕ) (turns : List Turn) (entries : List Entry) (f : Fetched) → Fetches ask keys id line call pass now turns entries f → AreFetched entries f.pieces.items f.origins.items
+pub fetch_fetched : (ask : Ask) (keys : List Key) (id : Option (List ℕ)) (line call : ℕ) (pass : Pinned) (now : ℕ) (turns : List Turn) (entries : List Entry) (f : Fetched) → FetchesPieces ask keys id line call pass now turns entries f → AreFromFetches entries f.pieces.items f.origins.items
 fetch_fetched ask keys id line call pass now turns entries f h =
     pieces_fetched entries line call _ _ f.pieces.items f.origins.items f.lasts.items h.pieces (brought_so ask _ id (permits_of h.answers) entries h.coming h.sends)

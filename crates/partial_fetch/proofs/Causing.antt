@@ -21,11 +21,11 @@ use Rattle.piece_fetch.specs.declared.fetched.Cause.{Cause}
 use Rattle.piece_fetch.specs.declared.fetched.Cause.TheVariants as cause
 use Rattle.piece_fetch.specs.declared.fetched.Fetched.{Fetched}
 use Rattle.piece_fetch.specs.Coming.{Sends, ComesOf, sent_of, causes_of}
-use Rattle.piece_fetch.specs.Fetching.{Fetches}
+use Rattle.piece_fetch.specs.Fetching.{FetchesPieces}
 use Rattle.plan_run.specs.declared.outcome.PieceError.{PieceError}
 use Rattle.plan_run.specs.Plans.{Wanted}
 use Rattle.plan_run.specs.Outcomes.{Done, entries_of, errors_from, errors_by, errors_of, path_of}
-use Rattle.plan_run.specs.Requests.{Runs}
+use Rattle.plan_run.specs.Requests.{AreRun}
 use Rattle.router_config.specs.declared.site.Site.{Site}
 use Rattle.router_config.specs.declared.config.Request.{Request}
 use Rattle.partial_fetch.specs.declared.answer.Answer.{Answer}
@@ -108,7 +108,7 @@ sent_long ask id (p ∷ ps) entries coming h long =
     let one : All (λ (e : Entry). IsLong e.answer) (h.0 ∷ []) = subst (All (λ (e : Entry). IsLong e.answer)) h.1 long in
     call_long (sent_of ask (length (p ∷ ps))) h.0.answer coming h.3 (All-head (λ (e : Entry). IsLong e.answer) h.0 [] one)
 
-fetch_counted : (sub fetch : ℕ) (path : Option Place) (ask : Ask) (keys : List Key) (id : Option (List ℕ)) (line call : ℕ) (pass : Pinned) (now : ℕ) (turns : List Turn) (entries : List Entry) (f : Fetched) → Fetches ask keys id line call pass now turns entries f
+fetch_counted : (sub fetch : ℕ) (path : Option Place) (ask : Ask) (keys : List Key) (id : Option (List ℕ)) (line call : ℕ) (pass : Pinned) (now : ℕ) (turns : List Turn) (entries : List Entry) (f : Fetched) → FetchesPieces ask keys id line call pass now turns entries f
     → unreachable sub (errors_from fetch ask.sub path f.causes.items) ≡ failures sub entries
 fetch_counted sub fetch path ask keys id line call pass now turns entries f h =
     ap (λ (cs : List Cause). unreachable sub (errors_from fetch ask.sub path cs)) h.causes ∙ sent_counted sub fetch path ask id (permits_of h.answers) entries h.coming h.sends
@@ -129,7 +129,7 @@ failures_append : (sub : ℕ) (es fs : List Entry) → failures sub (es ++ fs) �
 failures_append sub [] fs = omega arith
 failures_append sub (e ∷ es) fs = omega (arith, failures_append sub es fs)
 
-all_counted : (sub : ℕ) (id : Option (List ℕ)) (line : ℕ) (pass : Pinned) (calls : ℕ) (tasks : List Wanted) (done : List Done) → Runs id line pass calls tasks done → unreachable sub (errors_of tasks done) ≡ failures sub (entries_of done)
+all_counted : (sub : ℕ) (id : Option (List ℕ)) (line : ℕ) (pass : Pinned) (calls : ℕ) (tasks : List Wanted) (done : List Done) → AreRun id line pass calls tasks done → unreachable sub (errors_of tasks done) ≡ failures sub (entries_of done)
 all_counted sub id line pass calls [] [] h = refl
 all_counted sub id line pass calls (w ∷ ws) (d ∷ ds) h =
     let one : unreachable sub (errors_by w d.fetched) ≡ failures sub d.entries =
@@ -150,7 +150,7 @@ long_last : (es fs : List Entry) → All (λ (e : Entry). IsLong e.answer) (es +
 long_last [] fs all = all
 long_last (e ∷ es) fs all = long_last es fs (All-tail (λ (x : Entry). IsLong x.answer) e (es ++ fs) all)
 
-all_long : (id : Option (List ℕ)) (line : ℕ) (pass : Pinned) (calls : ℕ) (tasks : List Wanted) (done : List Done) → Runs id line pass calls tasks done → All (λ (e : Entry). IsLong e.answer) (entries_of done)
+all_long : (id : Option (List ℕ)) (line : ℕ) (pass : Pinned) (calls : ℕ) (tasks : List Wanted) (done : List Done) → AreRun id line pass calls tasks done → All (λ (e : Entry). IsLong e.answer) (entries_of done)
     → All (λ (e : PieceError). IsTooLong e.cause) (errors_of tasks done)
 all_long id line pass calls [] [] h long = All-nil (λ (e : PieceError). IsTooLong e.cause)
 all_long id line pass calls (w ∷ ws) (d ∷ ds) h long =

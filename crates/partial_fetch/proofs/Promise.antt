@@ -10,7 +10,7 @@ use Rattle.plan_run.specs.declared.outcome.Outcome.{Outcome}
 use Rattle.plan_run.specs.declared.outcome.PieceError.{PieceError}
 use Rattle.plan_run.specs.Plans.{Wanted}
 use Rattle.plan_run.specs.Outcomes.{Done}
-use Rattle.plan_run.specs.Requests.{DoesRequest, Runs}
+use Rattle.plan_run.specs.Requests.{DoesRequest, AreRun}
 use Rattle.plan_run.specs.Executions.{RunsPlan, results_of}
 use Rattle.plan_run.specs.Fetches.{next_of}
 use Rattle.plan_run.specs.Justified.{AllFound}
@@ -29,7 +29,7 @@ use Rattle.partial_fetch.specs.Answering.{Answers, IsRefusal, IsAnswer, refused,
 use Rattle.partial_fetch.specs.Headline.{AllFetched, IsPromised, KeepsPromise}
 use Rattle.partial_fetch.proofs.Bringing.{fetch_fetched}
 
-runs_fetched : (id : Option (List ℕ)) (line : ℕ) (pass : Pinned) (calls : ℕ) (tasks : List Wanted) (done : List Done) → Runs id line pass calls tasks done → AllFetched done
+runs_fetched : (id : Option (List ℕ)) (line : ℕ) (pass : Pinned) (calls : ℕ) (tasks : List Wanted) (done : List Done) → AreRun id line pass calls tasks done → AllFetched done
 runs_fetched id line pass calls [] [] h = tt
 runs_fetched id line pass calls (w ∷ ws) (d ∷ ds) h = (fetch_fetched w.ask w.keys id line calls pass d.now d.turns d.entries d.fetched h.0, runs_fetched id line pass (calls_after calls d.entries) ws ds h.1)
 runs_fetched id line pass calls [] (d ∷ ds) h = absurd h

@@ -11,7 +11,7 @@ use Rattle.gql_parser.specs.Faults.{IsText, Explains}
 use Rattle.gql_print.specs.Canonical.{canonical_text}
 use Rattle.gql_inputs.specs.declared.fault.VarFault.{VarFault}
 use Rattle.gql_inputs.specs.declared.fault.VarFault.TheVariants as wrong
-use Rattle.gql_inputs.specs.Variables.{Variables, IsCoerced, members_of, faulty}
+use Rattle.gql_inputs.specs.Variables.{CoercesVariables, IsCoerced, members_of, faulty}
 use Rattle.plan_book.specs.declared.book.Entry.{Entry}
 use Rattle.plan_book.specs.Book.{entry_with}
 use Rattle.router_config.specs.declared.site.Site.{Site}
@@ -75,7 +75,7 @@ pub data IsRefused (site : Site) (request : Request) : Refusal → Type 0 where
   -- its variables can't be coerced
   bad_variables : (entry : Entry) (operation : Operation) → HasOperation site request entry operation
       → (fault : VarFault) → fault ≢ wrong.Memory
-      → Variables site.schema (members_of request.variables) [] operation.variables (faulty fault)
+      → CoercesVariables site.schema (members_of request.variables) [] operation.variables (faulty fault)
       → IsRefused site request (refusal.BadVariables (variable_of fault) (cause_of fault))
 
 -- WHAT IS ACCEPTED: the entry that answers it, and the coerced variables

@@ -11,7 +11,7 @@ use Rattle.line_base.specs.Lines.{Line, Entry, Gains}
 use Rattle.cache_seam.specs.Seen.{Seen}
 use Rattle.reply_read.specs.declared.replies.Sent.{Sent}
 use Rattle.reply_read.specs.declared.replies.Pieces.{Pieces}
-use Rattle.reply_read.specs.Replies.{Reads}
+use Rattle.reply_read.specs.Replies.{ReadsReply}
 use Rattle.gql_shape.specs.declared.shaped.Shaped.{Shaped}
 use Rattle.gql_shape.specs.Shaping.{IsShaping}
 use Rattle.plan_exec.specs.Exec.{exec}
@@ -41,21 +41,21 @@ pub record WasFetched (entries : List Entry) (piece : Json) : Type 0 where
   pub status : reply.status ≡ 200
   pub sent : Sent
   pub pieces : Pieces
-  pub reads : Reads reply.body sent (Ok pieces)
+  pub reads : ReadsReply reply.body sent (Ok pieces)
   pub among : Contains pieces.values.items piece
 
 -- what is said to be fetched was fetched, and what is said to be absent is null, which changes no value
-abbrev pub AreFetched : List Entry → List Json → List Origin → Type 0
-AreFetched entries [] [] = Unit {0}
-AreFetched entries (piece ∷ pieces) (origin.Hit lookup stored ∷ origins) = AreFetched entries pieces origins
-AreFetched entries (piece ∷ pieces) (origin.Own line call ∷ origins) = WasFetched entries piece × AreFetched entries pieces origins
-AreFetched entries (piece ∷ pieces) (origin.Absent ∷ origins) = (piece ≡ json.Null) × AreFetched entries pieces origins
-AreFetched entries [] (o ∷ origins) = ⊥
-AreFetched entries (piece ∷ pieces) [] = ⊥
+abbrev pub AreFromFetches : List Entry → List Json → List Origin → Type 0
+AreFromFetches entries [] [] = Unit {0}
+AreFromFetches entries (piece ∷ pieces) (origin.Hit lookup stored ∷ origins) = AreFromFetches entries pieces origins
+AreFromFetches entries (piece ∷ pieces) (origin.Own line call ∷ origins) = WasFetched entries piece × AreFromFetches entries pieces origins
+AreFromFetches entries (piece ∷ pieces) (origin.Absent ∷ origins) = (piece ≡ json.Null) × AreFromFetches entries pieces origins
+AreFromFetches entries [] (o ∷ origins) = ⊥
+AreFromFetches entries (piece ∷ pieces) [] = ⊥
 
 abbrev pub AllFetched : List Done → Type 0
 AllFetched [] = Unit {0}
-AllFetched (d ∷ ds) = AreFetched d.entries d.fetched.pieces.items d.fetched.origins.items × AllFetched ds
+AllFetched (d ∷ ds) = AreFromFetches d.entries d.fetched.pieces.items d.fetched.origins.items × AllFetched ds
 
 pub record IsPromised (site : Site) (request : Request) (after : Seen) (l m : Line) (a : Answer) : Type 0 where
   -- the request was accepted for this plan, and these fetches were done for it: always the first that was ready, until none was

@@ -15,7 +15,7 @@ use Rattle.piece_fetch.specs.declared.fetched.Fetched.{Fetched}
 use Rattle.piece_fetch.specs.declared.fetched.Lasts.{Lasts}
 use Rattle.piece_fetch.specs.declared.fetched.Origin.{Origin}
 use Rattle.piece_fetch.specs.declared.slots.Slot.{Slot}
-use Rattle.piece_fetch.specs.Fetching.{DoesFetch, HasEach, ArePieces, no_more, hit, own, slots_of}
+use Rattle.piece_fetch.specs.Fetching.{DoesFetch, HasEach, AreGathered, no_more, hit, own, slots_of}
 use Rattle.piece_fetch.proofs.Parting.{as_many}
 
 as_many_slots : (answers : List Found) → length (slots_of answers) ≡ length answers
@@ -25,17 +25,17 @@ as_many_slots (found.Miss l p ∷ answers) = omega (arith, as_many_slots answers
 as_many_slots (found.Bypass p ∷ answers) = omega (arith, as_many_slots answers)
 
 module _ (line call : ℕ) where
-  as_many_pieces : (slots : List Slot) (came : List Brought) (xs : List Json) (os : List Origin) (ls : List (Option Lasts)) → ArePieces line call slots came xs os ls → length xs ≡ length slots
+  as_many_pieces : (slots : List Slot) (came : List Brought) (xs : List Json) (os : List Origin) (ls : List (Option Lasts)) → AreGathered line call slots came xs os ls → length xs ≡ length slots
   as_many_pieces _ _ _ _ _ no_more = refl
   as_many_pieces _ _ _ _ _ (hit l q v t x slots came xs os ls reads rest) = omega (arith, as_many_pieces slots came xs os ls rest)
   as_many_pieces _ _ _ _ _ (own one slots came xs os ls rest) = omega (arith, as_many_pieces slots came xs os ls rest)
 
-  as_many_origins : (slots : List Slot) (came : List Brought) (xs : List Json) (os : List Origin) (ls : List (Option Lasts)) → ArePieces line call slots came xs os ls → length os ≡ length slots
+  as_many_origins : (slots : List Slot) (came : List Brought) (xs : List Json) (os : List Origin) (ls : List (Option Lasts)) → AreGathered line call slots came xs os ls → length os ≡ length slots
   as_many_origins _ _ _ _ _ no_more = refl
   as_many_origins _ _ _ _ _ (hit l q v t x slots came xs os ls reads rest) = omega (arith, as_many_origins slots came xs os ls rest)
   as_many_origins _ _ _ _ _ (own one slots came xs os ls rest) = omega (arith, as_many_origins slots came xs os ls rest)
 
-  as_many_lasts : (slots : List Slot) (came : List Brought) (xs : List Json) (os : List Origin) (ls : List (Option Lasts)) → ArePieces line call slots came xs os ls → length ls ≡ length slots
+  as_many_lasts : (slots : List Slot) (came : List Brought) (xs : List Json) (os : List Origin) (ls : List (Option Lasts)) → AreGathered line call slots came xs os ls → length ls ≡ length slots
   as_many_lasts _ _ _ _ _ no_more = refl
   as_many_lasts _ _ _ _ _ (hit l q v t x slots came xs os ls reads rest) = omega (arith, as_many_lasts slots came xs os ls rest)
   as_many_lasts _ _ _ _ _ (own one slots came xs os ls rest) = omega (arith, as_many_lasts slots came xs os ls rest)

@@ -11,13 +11,13 @@ use Rattle.line_base.specs.Lines.{Line}
 use Rattle.flow_base.specs.Logs.{Grows}
 use Rattle.line_base.proofs.Gaining.{gains_none, grows_none}
 use Rattle.cache_seam.specs.Seen.{Seen, pass_of}
-use Rattle.cache_seam.specs.Turns.{Turn, Calls, Takes}
+use Rattle.cache_seam.specs.Turns.{Turn, Calls, TakesTurns}
 use Rattle.cache_seam.specs.Hand.{permits_of, AreAnswers}
 use Rattle.cache_seam.proofs.Chains.{takes_none, takes_one, takes_append}
 use Rattle.fetch_asks.specs.declared.ask.Ask.{Ask}
 use Rattle.piece_fetch.specs.declared.prepare.Work.{Work}
 use Rattle.piece_fetch.specs.declared.slots.Slot.{Slot}
-use Rattle.piece_fetch.specs.Coming.{Settles}
+use Rattle.piece_fetch.specs.Coming.{SettlesEach}
 use Rattle.piece_fetch.specs.Fetching.{slots_of, MaySend, DoesFetch, DropsFetch, unbegun, looking, in_hand}
 use Rattle.piece_fetch.specs.Between.{Works, MayHaveSent}
 use Rattle.piece_fetch.proofs.Parting.{lent_few}
@@ -54,13 +54,13 @@ module _ (ask : Ask) (keys : List Key) (id : Option (List ℕ)) (c : Seen) (l : 
   module _ (mid : Seen) (m : Line) (after : Option (List ℕ)) (now : ℕ) (answers : List Found) (permits : List Granted) (is : permits ≡ permits_of answers)
       (h : Calls c (Look (pass_of c) id keys now) (Looked answers) mid) (ticks : Grows before after (now ∷ [])) where
     -- memory ran out while the permits were in hand
-    pub drops_in_hand : (lent : List Granted) → lent ≡ permits_of answers → (d : Seen) → MayHaveSent ask id lent l m → (turns : List Turn) × Takes mid turns d × Settles permits (replicate (length permits) report.Failed) turns → DropsFetch ask keys id c d l m before after
+    pub drops_in_hand : (lent : List Granted) → lent ≡ permits_of answers → (d : Seen) → MayHaveSent ask id lent l m → (turns : List Turn) × TakesTurns mid turns d × SettlesEach permits (replicate (length permits) report.Failed) turns → DropsFetch ask keys id c d l m before after
     drops_in_hand lent same d may st = record {
       moments = now ∷ [];
       turns = h.turn ∷ st.0;
       entries = may.entries;
       drops = in_hand now h.turn answers st.0 may.entries h.call_is h.answer_is (subst (λ (ps : List Granted). MaySend ask id ps may.entries) same may.sends)
-          (subst (λ (ps : List Granted). Settles ps (replicate (length ps) report.Failed) st.0) is st.2);
+          (subst (λ (ps : List Granted). SettlesEach ps (replicate (length ps) report.Failed) st.0) is st.2);
       takes = takes_append c mid d (h.turn ∷ []) st.0 (takes_one c mid (Look (pass_of c) id keys now) (Looked answers) h) st.1;
       gains = may.gains;
       ticks = ticks;
@@ -68,11 +68,11 @@ module _ (ask : Ask) (keys : List Key) (id : Option (List ℕ)) (c : Seen) (l : 
 
     -- all was done
     pub does_fetch : (number : ℕ) (lent : List Granted) (slots : List Slot) → lent ≡ permits_of answers → slots ≡ slots_of answers → (d : Seen) (w : Work) → Works ask id number slots lent l m w
-        → (turns : List Turn) × Takes mid turns d × Settles permits w.reports.items turns → DoesFetch ask keys id number c d l m before after w.fetched
+        → (turns : List Turn) × TakesTurns mid turns d × SettlesEach permits w.reports.items turns → DoesFetch ask keys id number c d l m before after w.fetched
     does_fetch number lent slots same stand d w works st =
         let whole : Works ask id number (slots_of answers) (permits_of answers) l m w =
         subst (λ (ss : List Slot). Works ask id number ss (permits_of answers) l m w) stand (subst (λ (ps : List Granted). Works ask id number slots ps l m w) same works) in
-        let settled : Settles (permits_of answers) w.reports.items st.0 = subst (λ (ps : List Granted). Settles ps w.reports.items st.0) is st.2 in
+        let settled : SettlesEach (permits_of answers) w.reports.items st.0 = subst (λ (ps : List Granted). SettlesEach ps w.reports.items st.0) is st.2 in
         record {
           now = now;
           turns = h.turn ∷ st.0;
@@ -86,7 +86,7 @@ module _ (ask : Ask) (keys : List Key) (id : Option (List ℕ)) (c : Seen) (l : 
             looked = h.answer_is;
             coming = whole.coming;
             sends = whole.sends;
-            settled = subst (λ (rs : List Report). Settles (permits_of answers) rs st.0) whole.reports settled;
+            settled = subst (λ (rs : List Report). SettlesEach (permits_of answers) rs st.0) whole.reports settled;
             pieces = whole.pieces;
             causes = whole.causes;
             first_sent = whole.first_sent;

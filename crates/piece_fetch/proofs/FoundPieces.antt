@@ -30,7 +30,7 @@ use Rattle.piece_fetch.specs.declared.fetched.Origin.TheVariants as origin
 use Rattle.piece_fetch.specs.declared.slots.Slot.{Slot}
 use Rattle.piece_fetch.specs.declared.slots.Slot.TheVariants as slot
 use Rattle.piece_fetch.specs.Offering.{is_null}
-use Rattle.piece_fetch.specs.Fetching.{Fetches, DoesFetch, ArePieces, no_more, hit, own, slots_of}
+use Rattle.piece_fetch.specs.Fetching.{FetchesPieces, DoesFetch, AreGathered, no_more, hit, own, slots_of}
 use Rattle.piece_fetch.specs.Justified.{AreFound}
 use Rattle.piece_fetch.proofs.Pins.{KeepPin, pin_kept, settles_keep, keep_append}
 
@@ -90,7 +90,7 @@ module _ (J : List Event) (pass : Pinned) (id : Option (List ℕ)) (now : ℕ) (
   slots_found [] (a ∷ answers) stand kept = absurd stand
   slots_found (k ∷ keys) [] stand kept = absurd stand
 
-  pieces_found : (slots : List Slot) (came : List Brought) (xs : List Json) (os : List Origin) (ls : List (Option Lasts)) → ArePieces line call slots came xs os ls → (keys : List Key) → SlotsFound keys slots → AreFound J pass id now keys xs os
+  pieces_found : (slots : List Slot) (came : List Brought) (xs : List Json) (os : List Origin) (ls : List (Option Lasts)) → AreGathered line call slots came xs os ls → (keys : List Key) → SlotsFound keys slots → AreFound J pass id now keys xs os
   unfolding SlotsFound
   pieces_found _ _ _ _ _ no_more [] h = tt
   pieces_found _ _ _ _ _ no_more (k ∷ keys) h = absurd h
@@ -101,7 +101,7 @@ module _ (J : List Event) (pass : Pinned) (id : Option (List ℕ)) (now : ℕ) (
 
 -- the hits of a fetch stand in the journal seen after it and all later turns that keep the pin
 pub fetch_found : LooksFindWhatIsRecorded → RecordedHitsStay → (ask : Ask) (keys : List Key) (id : Option (List ℕ)) (line call : ℕ) (pass : Pinned) (now : ℕ) (turns us : List Turn) (entries : List Entry) (f : Fetched) (c : Seen) → pass_of c ≡ pass
-    → Fetches ask keys id line call pass now turns entries f → KeepPin us → AreTurns c (turns ++ us) → AreFound (seen_after_all c (turns ++ us)).journal pass id now keys f.pieces.items f.origins.items
+    → FetchesPieces ask keys id line call pass now turns entries f → KeepPin us → AreTurns c (turns ++ us) → AreFound (seen_after_all c (turns ++ us)).journal pass id now keys f.pieces.items f.origins.items
 fetch_found find stay ask keys id line call pass now turns us entries f c at h keep are =
     let rest : List Turn = h.settles ++ us in
     let shape : turns ++ us ≡ h.look ∷ rest = ap (λ (l : List Turn). l ++ us) h.turns_are in

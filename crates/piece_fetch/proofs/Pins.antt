@@ -9,8 +9,8 @@ use Rattle.cache_seam.specs.Seen.{Seen, pass_of}
 use Rattle.cache_seam.specs.Turns.{Turn, seen_after, seen_after_all, pinned_after, begun_after}
 use Rattle.fetch_asks.specs.declared.ask.Ask.{Ask}
 use Rattle.piece_fetch.specs.declared.fetched.Fetched.{Fetched}
-use Rattle.piece_fetch.specs.Coming.{Settles}
-use Rattle.piece_fetch.specs.Fetching.{Fetches}
+use Rattle.piece_fetch.specs.Coming.{SettlesEach}
+use Rattle.piece_fetch.specs.Fetching.{FetchesPieces}
 
 -- the call neither begins a request nor invalidates
 abbrev pub KeepsPin : Call → Type 0
@@ -44,7 +44,7 @@ pin_kept c (t ∷ ts) h =
     let rest = pin_kept (seen_after c t) ts h.1 in
     (rest.0 ∙ ap (λ (e : ℕ). record { who = c.number; epoch = e }) (same_pin t.call c.pinned t.left.epoch h.0), rest.1 ∙ same_begun t.call c.begun h.0)
 
-pub settles_keep : (ps : List Granted) (rs : List Report) (ts : List Turn) → Settles ps rs ts → KeepPin ts
+pub settles_keep : (ps : List Granted) (rs : List Report) (ts : List Turn) → SettlesEach ps rs ts → KeepPin ts
 settles_keep [] [] [] h = tt
 settles_keep (p ∷ ps) (r ∷ rs) (t ∷ ts) h = (subst KeepsPin (sym h.0) tt, settles_keep ps rs ts h.1)
 settles_keep [] (r ∷ rs) ts h = absurd h
@@ -52,7 +52,7 @@ settles_keep [] [] (t ∷ ts) h = absurd h
 settles_keep (p ∷ ps) [] ts h = absurd h
 settles_keep (p ∷ ps) (r ∷ rs) [] h = absurd h
 
-pub fetch_keeps : (ask : Ask) (keys : List Key) (id : Option (List ℕ)) (line call : ℕ) (pass : Pinned) (now : ℕ) (turns : List Turn) (entries : List Entry) (f : Fetched) → Fetches ask keys id line call pass now turns entries f → KeepPin turns
+pub fetch_keeps : (ask : Ask) (keys : List Key) (id : Option (List ℕ)) (line call : ℕ) (pass : Pinned) (now : ℕ) (turns : List Turn) (entries : List Entry) (f : Fetched) → FetchesPieces ask keys id line call pass now turns entries f → KeepPin turns
 fetch_keeps ask keys id line call pass now turns entries f h = subst KeepPin (sym h.turns_are) (subst KeepsPin (sym h.looks) tt, settles_keep _ _ h.settles h.settled)
 
 pub keep_append : (ts us : List Turn) → KeepPin ts → KeepPin us → KeepPin (ts ++ us)

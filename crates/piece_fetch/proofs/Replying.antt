@@ -9,7 +9,7 @@ use Rattle.reply_read.specs.declared.replies.Sent.{Sent}
 use Rattle.reply_read.specs.declared.replies.Pieces.{Pieces}
 use Rattle.reply_read.specs.declared.replies.ReplyFault.{ReplyFault}
 use Rattle.reply_read.specs.declared.replies.ReplyFault.TheVariants as fault
-use Rattle.reply_read.specs.Replies.{Reads}
+use Rattle.reply_read.specs.Replies.{ReadsReply}
 use Rattle.piece_fetch.specs.declared.came.Coming.TheVariants.{Came}
 use Rattle.piece_fetch.specs.Coming.{ComesOf}
 use Rattle.piece_fetch.specs.Between.{refusal}
@@ -17,7 +17,7 @@ use Rattle.piece_fetch.specs.Between.{refusal}
 -- another status than 200 is the answer, and else the body decides
 pub record Answers (reply : Reply) (s : Sent) (r : Result Pieces ReplyFault) : Type 0 where
   pub status : reply.status ≢ 200 → r ≡ Err (fault.Status reply.status)
-  pub body : reply.status ≡ 200 → Reads reply.body s r
+  pub body : reply.status ≡ 200 → ReadsReply reply.body s r
 
 pub read_comes : (reply : Reply) (s : Sent) (p : Pieces) (verdict : Verdict) → Answers reply s (Ok p) → IsVerdict reply.cache_control reply.age verdict → ComesOf s (Ok reply) (Came reply.status verdict p)
 read_comes reply s p verdict h v = by_test (reply.status == 200) refl
@@ -32,7 +32,7 @@ read_comes reply s p verdict h v = by_test (reply.status == 200) refl
 pub refused_comes : (reply : Reply) (s : Sent) (f : ReplyFault) → Answers reply s (Err f) → f ≢ fault.Memory → ComesOf s (Ok reply) (refusal f)
 refused_comes reply s f h some = by_test (reply.status == 200) refl
   where
-    good : (g : ReplyFault) → reply.status ≡ 200 → Reads reply.body s (Err g) → g ≢ fault.Memory → ComesOf s (Ok reply) (refusal g)
+    good : (g : ReplyFault) → reply.status ≡ 200 → ReadsReply reply.body s (Err g) → g ≢ fault.Memory → ComesOf s (Ok reply) (refusal g)
     good (fault.Status status) is reads there = absurd reads
     good (fault.Json place) is reads there = (is, there, reads)
     good (fault.Shape member) is reads there = (is, there, reads)

@@ -27,7 +27,7 @@ use Rattle.reply_read.specs.declared.replies.Sent.{Sent}
 use Rattle.reply_read.specs.declared.replies.Sent.TheVariants as sent
 use Rattle.reply_read.specs.declared.replies.Pieces.{Pieces}
 use Rattle.reply_read.specs.Kinds as kinds
-use Rattle.reply_read.specs.Replies.{Reads}
+use Rattle.reply_read.specs.Replies.{ReadsReply}
 use Rattle.reply_read.specs.Values.{count_of}
 use Rattle.reply_read.specs.Pieces as reply_pieces
 use Rattle.reply_read.proofs.PieceTexts.{pieces_read}
@@ -37,7 +37,7 @@ use Rattle.piece_fetch.specs.declared.came.Coming.TheVariants.{Nothing, Lost, Ca
 use Rattle.piece_fetch.specs.Offering as offering
 use Rattle.piece_fetch.specs.Offering.{offer_of, pieces_of, report_of, brought_of, is_some_error}
 use Rattle.piece_fetch.specs.Coming.{ComesOf, Sends, reports_of, brought_by, sent_of}
-use Rattle.piece_fetch.specs.Between.{IsWhole}
+use Rattle.piece_fetch.specs.Between.{AreAllThere}
 
 -- reports that permits may be settled with: as many as permits, in range, and of objects
 pub record AreReports (n : ℕ) (rs : List Report) : Type 0 where
@@ -76,7 +76,7 @@ module _ (ask : Ask) (status : ℕ) (verdict : Verdict) (errors : Bool) where
       (offered_object ask status verdict errors v t (kind_of v) both.0 (All-head (HasText strict) v vs texts)) (offered_objects vs ts both.1 (All-tail (HasText strict) v vs texts))
 
 -- what a readable reply holds
-came_pieces : (s : Sent) (body : List ℕ) (p : Pieces) → Reads body s (Ok p) → reply_pieces.ArePieces s p.values.items p.tags.items
+came_pieces : (s : Sent) (body : List ℕ) (p : Pieces) → ReadsReply body s (Ok p) → reply_pieces.ArePieces s p.values.items p.tags.items
 came_pieces s body p h = pieces_read body s (Ok p) h
 
 -- so many pieces are asked for
@@ -126,7 +126,7 @@ sent_reports ask id named [] entries coming one h =
     subst (λ (x : Coming). AreReports 0 (reports_of ask 0 x) × (length (brought_by ask named 0 x) ≡ 0)) (sym h.1) (record { count = refl; range = All-nil IsInRange; objects = All-nil OffersObject }, refl)
 sent_reports ask id named (p ∷ ps) entries coming one h = reports_of_came ask (length (p ∷ ps)) (λ root. let few : length (p ∷ ps) ≤ 1 = one root in omega (arith, few)) named (h.0.answer) coming (h.3)
 
-came_whole : (s : Sent) (answer : Result Reply LineFault) (coming : Coming) → ComesOf s answer coming → IsWhole coming
+came_whole : (s : Sent) (answer : Result Reply LineFault) (coming : Coming) → ComesOf s answer coming → AreAllThere coming
 came_whole s (Ok reply) (Came status verdict p) h = let are = came_pieces s reply.body p h.3 in (are.tags_count ∙ sym are.values_count, (verdict_in_range reply.cache_control reply.age verdict h.2).0)
 came_whole s answer (Lost why) h = tt
 came_whole s answer Nothing h = tt
@@ -135,6 +135,6 @@ came_whole s (Err (fault.TooLong k)) (Came status verdict p) h = absurd h
 came_whole s (Err fault.Memory) (Came status verdict p) h = absurd h
 
 -- what comes of what is sent is whole
-pub sent_whole : (ask : Ask) (id : Option (List ℕ)) (permits : List Granted) (entries : List Entry) (coming : Coming) → Sends ask id permits entries coming → IsWhole coming
-sent_whole ask id [] entries coming h = subst IsWhole (sym h.1) tt
+pub sent_whole : (ask : Ask) (id : Option (List ℕ)) (permits : List Granted) (entries : List Entry) (coming : Coming) → Sends ask id permits entries coming → AreAllThere coming
+sent_whole ask id [] entries coming h = subst AreAllThere (sym h.1) tt
 sent_whole ask id (p ∷ ps) entries coming h = came_whole (sent_of ask (length (p ∷ ps))) (h.0.answer) coming (h.3)

@@ -5,7 +5,7 @@ use Rattle.cache_book.specs.declared.permit.Report.{Report}
 use Rattle.line_base.specs.Lines.{Line, Entry, Gains}
 use Rattle.cache_seam.specs.Objects.{IsObjectText}
 use Rattle.cache_seam.specs.Seen.{Seen}
-use Rattle.cache_seam.specs.Turns.{Turn, Takes}
+use Rattle.cache_seam.specs.Turns.{Turn, TakesTurns}
 use Rattle.reply_read.specs.declared.replies.ReplyFault.{ReplyFault}
 use Rattle.reply_read.specs.declared.replies.ReplyFault.TheVariants as fault
 use Rattle.fetch_asks.specs.declared.ask.Ask.{Ask}
@@ -17,13 +17,13 @@ use Rattle.piece_fetch.specs.declared.fetched.Cause.TheVariants as cause
 use Rattle.piece_fetch.specs.declared.prepare.Work.{Work}
 use Rattle.piece_fetch.specs.declared.slots.Slot.{Slot}
 use Rattle.piece_fetch.specs.declared.slots.Slot.TheVariants as slot
-use Rattle.piece_fetch.specs.Coming.{Sends, Settles, reports_of, brought_by, causes_of}
-use Rattle.piece_fetch.specs.Fetching.{MaySend, ArePieces, is_asked}
+use Rattle.piece_fetch.specs.Coming.{Sends, SettlesEach, reports_of, brought_by, causes_of}
+use Rattle.piece_fetch.specs.Fetching.{MaySend, AreGathered, is_asked}
 
 -- each text with a comma before it
-abbrev pub behind : List (List ℕ) → List ℕ
-behind [] = []
-behind (text ∷ texts) = 44 ∷ (text ++ behind texts)
+abbrev pub after_commas : List (List ℕ) → List ℕ
+after_commas [] = []
+after_commas (text ∷ texts) = 44 ∷ (text ++ after_commas texts)
 
 -- what a fault of the reader means
 abbrev pub refusal : ReplyFault → Coming
@@ -34,10 +34,10 @@ refusal (fault.Count got sent) = Lost (cause.BadReply (fault.Count got sent))
 refusal fault.Memory = Lost (cause.BadReply fault.Memory)
 
 -- each piece that came has its tags, and the lifetime is in its range
-abbrev pub IsWhole : Coming → Type 0
-IsWhole Nothing = Unit {0}
-IsWhole (Lost why) = Unit {0}
-IsWhole (Came status verdict p) = (length p.tags.items ≡ length p.values.items) × (verdict.lifetime ≤ 2147483648)
+abbrev pub AreAllThere : Coming → Type 0
+AreAllThere Nothing = Unit {0}
+AreAllThere (Lost why) = Unit {0}
+AreAllThere (Came status verdict p) = (length p.tags.items ≡ length p.values.items) × (verdict.lifetime ≤ 2147483648)
 
 -- how many are asked for
 abbrev pub asked_count : List Slot → ℕ
@@ -69,13 +69,13 @@ pub record Works (ask : Ask) (id : Option (List ℕ)) (number : ℕ) (slots : Li
   pub sends : Sends ask id permits entries coming
   pub gains : Gains l entries m
   pub reports : w.reports.items ≡ reports_of ask (length permits) coming
-  pub pieces : ArePieces number l.calls slots (brought_by ask (is_some id) (length permits) coming) w.fetched.pieces.items w.fetched.origins.items w.fetched.lasts.items
+  pub pieces : AreGathered number l.calls slots (brought_by ask (is_some id) (length permits) coming) w.fetched.pieces.items w.fetched.origins.items w.fetched.lasts.items
   pub causes : w.fetched.causes.items ≡ causes_of coming
   pub first_sent : w.fetched.first_sent ≡ position is_asked slots
 
 -- turns settle each permit with its report, in order, and no others are taken
 abbrev pub SettlesAll : Seen → List Granted → List Report → Seen → Type 0
-SettlesAll c permits reports d = (turns : List Turn) × Takes c turns d × Settles permits reports turns
+SettlesAll c permits reports d = (turns : List Turn) × TakesTurns c turns d × SettlesEach permits reports turns
 
 -- what comes gives these reports, pieces and causes
 pub record Unpacks (ask : Ask) (named : Bool) (n : ℕ) (coming : Coming) (reports : List Report) (brought : List Brought) (causes : List Cause) : Type 0 where

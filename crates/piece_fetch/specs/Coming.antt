@@ -14,7 +14,7 @@ use Rattle.cache_seam.specs.Turns.{Turn}
 use Rattle.reply_read.specs.declared.replies.Sent.{Sent}
 use Rattle.reply_read.specs.declared.replies.Sent.TheVariants as sent
 use Rattle.reply_read.specs.declared.replies.ReplyFault.TheVariants as reply_fault
-use Rattle.reply_read.specs.Replies.{Reads}
+use Rattle.reply_read.specs.Replies.{ReadsReply}
 use Rattle.fetch_asks.specs.declared.ask.Ask.{Ask}
 use Rattle.fetch_asks.specs.Asking.{call_of}
 use Rattle.piece_fetch.specs.declared.came.Coming.{Coming}
@@ -31,9 +31,9 @@ sent_of ask n = if ask.entities then sent.Entities n else sent.Root
 -- what comes of the answer to a call for these: the pieces of a readable reply with its verdict, or what went wrong
 abbrev pub ComesOf : Sent → Result Reply LineFault → Coming → Type 0
 ComesOf s answer Nothing = ⊥
-ComesOf s (Ok reply) (Came status verdict pieces) = (reply.status ≡ 200) × (status ≡ reply.status) × IsVerdict reply.cache_control reply.age verdict × Reads reply.body s (Ok pieces)
+ComesOf s (Ok reply) (Came status verdict pieces) = (reply.status ≡ 200) × (status ≡ reply.status) × IsVerdict reply.cache_control reply.age verdict × ReadsReply reply.body s (Ok pieces)
 ComesOf s (Ok reply) (Lost (cause.Status status)) = (reply.status ≡ status) × (status ≢ 200)
-ComesOf s (Ok reply) (Lost (cause.BadReply fault)) = (reply.status ≡ 200) × (fault ≢ reply_fault.Memory) × Reads reply.body s (Err fault)
+ComesOf s (Ok reply) (Lost (cause.BadReply fault)) = (reply.status ≡ 200) × (fault ≢ reply_fault.Memory) × ReadsReply reply.body s (Err fault)
 ComesOf s (Err line_fault.Failed) (Lost why) = why ≡ cause.Unreachable
 ComesOf s (Err (line_fault.TooLong n)) (Lost why) = why ≡ cause.TooLong n
 ComesOf s answer other = ⊥
@@ -66,10 +66,10 @@ causes_of (Lost why) = why ∷ []
 causes_of (Came status verdict p) = map (λ text. cause.Subgraph text) p.errors.items
 
 -- each permit is settled with its report, in order
-abbrev pub Settles : List Granted → List Report → List Turn → Type 0
-Settles [] [] [] = Unit {0}
-Settles (p ∷ ps) (r ∷ rs) (t ∷ ts) = (t.call ≡ Settle p r) × Settles ps rs ts
-Settles [] (r ∷ rs) ts = ⊥
-Settles [] [] (t ∷ ts) = ⊥
-Settles (p ∷ ps) [] ts = ⊥
-Settles (p ∷ ps) (r ∷ rs) [] = ⊥
+abbrev pub SettlesEach : List Granted → List Report → List Turn → Type 0
+SettlesEach [] [] [] = Unit {0}
+SettlesEach (p ∷ ps) (r ∷ rs) (t ∷ ts) = (t.call ≡ Settle p r) × SettlesEach ps rs ts
+SettlesEach [] (r ∷ rs) ts = ⊥
+SettlesEach [] [] (t ∷ ts) = ⊥
+SettlesEach (p ∷ ps) [] ts = ⊥
+SettlesEach (p ∷ ps) (r ∷ rs) [] = ⊥

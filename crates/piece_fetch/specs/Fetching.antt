@@ -11,7 +11,7 @@ use Rattle.cache_book.specs.Calls.{Look, Looked, OutOfMemory}
 use Rattle.flow_base.specs.Logs.{Grows}
 use Rattle.line_base.specs.Lines.{Line, Entry, Gains}
 use Rattle.cache_seam.specs.Seen.{Seen, pass_of}
-use Rattle.cache_seam.specs.Turns.{Turn, Takes}
+use Rattle.cache_seam.specs.Turns.{Turn, TakesTurns}
 use Rattle.cache_seam.specs.Hand.{permits_of}
 use Rattle.fetch_asks.specs.declared.ask.Ask.{Ask}
 use Rattle.piece_fetch.specs.declared.came.Brought.{Brought}
@@ -23,7 +23,7 @@ use Rattle.piece_fetch.specs.declared.fetched.Origin.TheVariants as origin
 use Rattle.piece_fetch.specs.declared.slots.Slot.{Slot}
 use Rattle.piece_fetch.specs.declared.slots.Slot.TheVariants as slot
 use Rattle.piece_fetch.specs.Offering.{is_null}
-use Rattle.piece_fetch.specs.Coming.{Sends, IsSent, Settles, reports_of, brought_by, causes_of}
+use Rattle.piece_fetch.specs.Coming.{Sends, IsSent, SettlesEach, reports_of, brought_by, causes_of}
 
 -- what stands for each key: the piece that was found, or one that is asked for
 abbrev pub slots_of : List Found → List Slot
@@ -42,14 +42,14 @@ own_origin line call v = if is_null v then origin.Absent else origin.Own line ca
 
 -- for each key its piece, where that comes from, and how long it lasts: what was found reads as the piece, and what was
 -- asked for comes in order
-pub data ArePieces (line call : ℕ) : List Slot → List Brought → List Json → List Origin → List (Option Lasts) → Type 0 where
-  no_more : ArePieces line call [] [] [] [] []
+pub data AreGathered (line call : ℕ) : List Slot → List Brought → List Json → List Origin → List (Option Lasts) → Type 0 where
+  no_more : AreGathered line call [] [] [] [] []
   hit : (lookup stored : ℕ) (value : List ℕ) (lasts : Lasts) (piece : Json) (slots : List Slot) (came : List Brought) (pieces : List Json) (origins : List Origin) (times : List (Option Lasts))
-      → IsText strict piece value → ArePieces line call slots came pieces origins times
-      → ArePieces line call (slot.Hit lookup stored value lasts ∷ slots) came (piece ∷ pieces) (origin.Hit lookup stored ∷ origins) (Some lasts ∷ times)
+      → IsText strict piece value → AreGathered line call slots came pieces origins times
+      → AreGathered line call (slot.Hit lookup stored value lasts ∷ slots) came (piece ∷ pieces) (origin.Hit lookup stored ∷ origins) (Some lasts ∷ times)
   own : (one : Brought) (slots : List Slot) (came : List Brought) (pieces : List Json) (origins : List Origin) (times : List (Option Lasts))
-      → ArePieces line call slots came pieces origins times
-      → ArePieces line call (slot.Asked ∷ slots) (one ∷ came) (one.value ∷ pieces) (own_origin line call one.value ∷ origins) (one.lasts ∷ times)
+      → AreGathered line call slots came pieces origins times
+      → AreGathered line call (slot.Asked ∷ slots) (one ∷ came) (one.value ∷ pieces) (own_origin line call one.value ∷ origins) (one.lasts ∷ times)
 
 -- nothing was sent, or the call for these permits
 abbrev pub MaySend : Ask → Option (List ℕ) → List Granted → List Entry → Type 0
@@ -57,7 +57,7 @@ MaySend ask id permits entries = (entries ≡ []) ⊎ ((e : Entry) × (entries �
 
 -- ONE FETCH. It looks for its pieces at one moment, asks for those that are missing in one call, and settles the permit
 -- of each of these in order.
-pub record Fetches (ask : Ask) (keys : List Key) (id : Option (List ℕ)) (line call : ℕ) (pass : Pinned) (now : ℕ) (turns : List Turn) (entries : List Entry) (f : Fetched) : Type 0 where
+pub record FetchesPieces (ask : Ask) (keys : List Key) (id : Option (List ℕ)) (line call : ℕ) (pass : Pinned) (now : ℕ) (turns : List Turn) (entries : List Entry) (f : Fetched) : Type 0 where
   pub answers : List Found
   pub look : Turn
   pub settles : List Turn
@@ -66,8 +66,8 @@ pub record Fetches (ask : Ask) (keys : List Key) (id : Option (List ℕ)) (line 
   pub looked : look.answer ≡ Looked answers
   pub coming : Coming
   pub sends : Sends ask id (permits_of answers) entries coming
-  pub settled : Settles (permits_of answers) (reports_of ask (length (permits_of answers)) coming) settles
-  pub pieces : ArePieces line call (slots_of answers) (brought_by ask (is_some id) (length (permits_of answers)) coming) f.pieces.items f.origins.items f.lasts.items
+  pub settled : SettlesEach (permits_of answers) (reports_of ask (length (permits_of answers)) coming) settles
+  pub pieces : AreGathered line call (slots_of answers) (brought_by ask (is_some id) (length (permits_of answers)) coming) f.pieces.items f.origins.items f.lasts.items
   pub causes : f.causes.items ≡ causes_of coming
   pub first_sent : f.first_sent ≡ position is_asked (slots_of answers)
 
@@ -77,7 +77,7 @@ pub data Drops (ask : Ask) (keys : List Key) (id : Option (List ℕ)) (pass : Pi
   looking : (now : ℕ) (look : Turn) → look.call ≡ Look pass id keys now → look.answer ≡ OutOfMemory → Drops ask keys id pass (now ∷ []) (look ∷ []) []
   in_hand : (now : ℕ) (look : Turn) (answers : List Found) (settles : List Turn) (entries : List Entry)
       → look.call ≡ Look pass id keys now → look.answer ≡ Looked answers → MaySend ask id (permits_of answers) entries
-      → Settles (permits_of answers) (replicate (length (permits_of answers)) report.Failed) settles → Drops ask keys id pass (now ∷ []) (look ∷ settles) entries
+      → SettlesEach (permits_of answers) (replicate (length (permits_of answers)) report.Failed) settles → Drops ask keys id pass (now ∷ []) (look ∷ settles) entries
 
 -- WHAT IT DOES to the cache, the line and the clock
 
@@ -85,8 +85,8 @@ pub record DoesFetch (ask : Ask) (keys : List Key) (id : Option (List ℕ)) (num
   pub now : ℕ
   pub turns : List Turn
   pub entries : List Entry
-  pub fetches : Fetches ask keys id number l.calls (pass_of c) now turns entries f
-  pub takes : Takes c turns d
+  pub fetches : FetchesPieces ask keys id number l.calls (pass_of c) now turns entries f
+  pub takes : TakesTurns c turns d
   pub gains : Gains l entries m
   pub ticks : Grows before after (now ∷ [])
 
@@ -95,7 +95,7 @@ pub record DropsFetch (ask : Ask) (keys : List Key) (id : Option (List ℕ)) (c 
   pub turns : List Turn
   pub entries : List Entry
   pub drops : Drops ask keys id (pass_of c) moments turns entries
-  pub takes : Takes c turns d
+  pub takes : TakesTurns c turns d
   pub gains : Gains l entries m
   pub ticks : Grows before after moments
 

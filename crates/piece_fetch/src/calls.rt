@@ -4,7 +4,7 @@ ghost use Rattle.fetch_asks.specs.Asking as asking;
 ghost use Rattle.fetch_asks.specs.Asking.{joined, representation_of};
 ghost use Rattle.piece_fetch.specs.Coming as spec;
 ghost use Rattle.piece_fetch.specs.Coming.{ComesOf};
-ghost use Rattle.piece_fetch.specs.Between.{behind, refusal, HasSent, MayHaveSent};
+ghost use Rattle.piece_fetch.specs.Between.{after_commas, refusal, HasSent, MayHaveSent};
 
 use crate::{Ask, Cause, Coming};
 use cache_book::Permit;
@@ -18,7 +18,7 @@ use std::alloc::Global;
 /// Appends each representation with a comma before it.
 fn put_behind(body: &mut String, permits: &[Permit]) -> Result<(), Memory>
     ensures { OnOk result (string_bytes body.new
-        ≡ string_bytes body.old ++ behind (map representation_of permits.now)) }
+        ≡ string_bytes body.old ++ after_commas (map representation_of permits.now)) }
 {
     'listing: for permit in permits {
         body.push(',')?;

@@ -3,7 +3,7 @@ ghost use Rattle.json_value.specs.Grammar.{IsText, strict};
 ghost use Rattle.cache_seam.specs.Hand.{permits_of};
 ghost use Rattle.cache_seam.specs.Objects.{IsObjectText};
 ghost use Rattle.piece_fetch.specs.Fetching as spec;
-ghost use Rattle.piece_fetch.specs.Fetching.{slots_of, ArePieces};
+ghost use Rattle.piece_fetch.specs.Fetching.{slots_of, AreGathered};
 ghost use Rattle.piece_fetch.specs.Between.{asked_count, IsReadable};
 
 use crate::{Brought, Lasts, Origin};
@@ -142,7 +142,7 @@ pub fn gather(
 ) -> Result<Gathered, Memory>
     requires count { asked_count slots.items ≡ length came.items }
     requires readable { All IsReadable slots.items }
-    ensures { IfOk result (λ g. ArePieces line call slots.items came.items
+    ensures { IfOk result (λ g. AreGathered line call slots.items came.items
         g.pieces.items g.origins.items g.lasts.items) }
 {
     let mut came = VecDeque::from(came);

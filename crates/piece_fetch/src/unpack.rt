@@ -2,7 +2,7 @@ ghost use Rattle.std.specs.Prelude.{◌≡◌, ◌≤◌, Bool, length, map, is_
 ghost use Rattle.std.specs.Option.{option_copied};
 ghost use Rattle.std.specs.List.{zip};
 ghost use Rattle.cache_terms.specs.Offers.{why_of};
-ghost use Rattle.piece_fetch.specs.Between.{IsWhole, Unpacks};
+ghost use Rattle.piece_fetch.specs.Between.{AreAllThere, Unpacks};
 ghost use Rattle.piece_fetch.specs.Lasting as lasting;
 ghost use Rattle.piece_fetch.specs.Offering as offering;
 ghost use Rattle.piece_fetch.specs.Offering.{report_of, brought_of};
@@ -156,7 +156,7 @@ fn unpack_came(
     verdict: Verdict,
     pieces: Pieces,
 ) -> Result<Unpacked, Memory>
-    requires { IsWhole (Coming.Came status verdict pieces) }
+    requires { AreAllThere (Coming.Came status verdict pieces) }
     ensures { IfOk result (λ u. Unpacks ask.now named count (Coming.Came status verdict pieces)
         u.reports.items u.brought.items u.causes.items) }
 {
@@ -185,7 +185,7 @@ pub fn unpack(
     count: usize,
     coming: Coming,
 ) -> Result<Unpacked, Memory>
-    requires { IsWhole coming }
+    requires { AreAllThere coming }
     ensures { IfOk result (λ u. Unpacks ask.now named count coming
         u.reports.items u.brought.items u.causes.items) }
 {

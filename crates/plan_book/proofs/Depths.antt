@@ -9,7 +9,7 @@ use Rattle.plan_tree.specs.declared.plan.Node.TheOpen.{Node-F}
 use Rattle.plan_tree.specs.declared.plan.Node.TheFolds.{fold-Node, fold-roll-Node}
 use Rattle.plan_tree.specs.Lawful.{deepest, depth_step, depth}
 use Rattle.plan_book.specs.declared.nodes.Draft.{Draft}
-use Rattle.plan_book.specs.Drafts.{Deepens, IsInside}
+use Rattle.plan_book.specs.Drafts.{Deepens, StandsInside}
 use Rattle.plan_book.proofs.Each.{deepest-append}
 
 pub depth-fetch : (n : ℕ) → depth (node.Fetch n) ≡ 1
@@ -52,7 +52,7 @@ deepens_more old mid new around ns more n h k is =
     let e : deepest (map depth more) ≡ max (deepest (map depth ns)) (depth n) = ap (λ (ms : List Node). deepest (map depth ms)) is ∙ depths_more ns n in
     deepens_twice old mid new around (deepest (map depth ns)) around (depth n) (deepest (map depth more)) h k (omega arith)
 
-pub deepens_none : (draft : Draft) (around : ℕ) (ns : List Node) → ns ≡ [] → IsInside draft around → Deepens draft draft around (deepest (map depth ns))
+pub deepens_none : (draft : Draft) (around : ℕ) (ns : List Node) → ns ≡ [] → StandsInside draft around → Deepens draft draft around (deepest (map depth ns))
 deepens_none draft around ns none inside =
     let e : deepest (map depth ns) ≡ 0 = ap (λ (ms : List Node). deepest (map depth ms)) none in
     record { deepest_is = (let r = inside.reached in omega arith); longer = omega arith }

@@ -14,12 +14,12 @@ use Rattle.plan_book.specs.declared.kinds.Kind.{Kind}
 use Rattle.plan_book.specs.declared.kinds.Standing.{Standing}
 use Rattle.plan_book.specs.declared.book.Entry.{Entry}
 use Rattle.plan_book.specs.declared.fault.PlanFault.{PlanFault}
-use Rattle.plan_book.specs.Asking.{Read, faulty, made, ask_document, ask_spread, Stands, Says}
+use Rattle.plan_book.specs.Asking.{Read, faulty, made, ask_document, ask_spread, IsDocumentOf, IsAnswered}
 use Rattle.plan_book.specs.Forms.{elements}
 use Rattle.plan_book.specs.Fetches.{entity}
-use Rattle.plan_book.specs.Nodes.{SoFar, after, fetched, flattened, gathered, with_first, IsNode, by_kind, IsOfKind, of_no_kind, is_fetch, no_flatten, is_flatten, is_sequence, is_parallel, AreInside, no_nodes, in_order, AreNodes, no_more, stops, another}
+use Rattle.plan_book.specs.Nodes.{SoFar, after, fetched, flattened, gathered, with_first_node, IsNode, by_kind, IsOfKind, of_no_kind, is_fetch, no_flatten, is_flatten, is_sequence, is_parallel, AreInside, no_nodes, in_order, AreNodes, no_more, stops, another}
 use Rattle.plan_book.specs.PlanFile as file
-use Rattle.plan_book.specs.PlanFile.{Head, head, whole, standing, IsWhole, HasPlan, IsEntry, fresh, IsFresh, IsNext, AreEntries, AreFew, IsListOf, IsPlanFile}
+use Rattle.plan_book.specs.PlanFile.{Head, head, whole_entry, standing, IsWholeEntry, HasEntry, IsEntry, of_new_text, IsOfNewText, IsNextEntry, AreEntries, AreFew, IsListOf, IsPlanFile}
 
 -- ---- what the grammar answers
 
@@ -44,19 +44,19 @@ first_once P xs (Some x) None (px, before, later, parts, apart) k = absurd (not_
 first_once P xs (Some x) (Some y) (px, before, later, parts, apart) (py, before', later', parts', apart') =
     ap (λ (z : List ℕ). Some z) (one_first P before x later before' y later' (sym parts ∙ parts') px py apart apart')
 
-document_once : (text : List ℕ) (d e : Option Document) → Stands text d → Stands text e → d ≡ e
+document_once : (text : List ℕ) (d e : Option Document) → IsDocumentOf text d → IsDocumentOf text e → d ≡ e
 document_once text None None h k = refl
 document_once text None (Some e) h k = absurd (h e k)
 document_once text (Some d) None h k = absurd (k d h)
 document_once text (Some d) (Some e) h k = ap (λ (x : Document). Some x) (text_once text d e h k)
 
-says_once : {X : Type 0} (read : Read X) (r q : Result X PlanFault) → Says read r → Says read q → r ≡ q
+says_once : {X : Type 0} (read : Read X) (r q : Result X PlanFault) → IsAnswered read r → IsAnswered read q → r ≡ q
 says_once (faulty f) r q h k = h ∙ sym k
 says_once (made x) r q h k = h ∙ sym k
 says_once (ask_document text onward) r q (d, stands, h) (e, stands', k) =
-    says_once (onward e) r q (subst (λ (x : Option Document). Says (onward x) r) (document_once text d e stands stands') h) k
+    says_once (onward e) r q (subst (λ (x : Option Document). IsAnswered (onward x) r) (document_once text d e stands stands') h) k
 says_once (ask_spread document onward) r q (a, is, h) (b, is', k) =
-    says_once (onward b) r q (subst (λ (x : Option (List ℕ)). Says (onward x) r) (first_once (IsBad document.fragments) (document_spreads document) a b is is') h) k
+    says_once (onward b) r q (subst (λ (x : Option (List ℕ)). IsAnswered (onward x) r) (first_once (IsBad document.fragments) (document_spreads document) a b is is') h) k
 
 -- ---- nodes
 
@@ -76,9 +76,9 @@ second_same : {n n' : Node} {b b' : SoFar} → ◌≡◌ {A = Node × SoFar} (n,
 second_same e = ap (λ (p : Node × SoFar). p.1) e
 
 flatten_once : (s : Standing) (b : SoFar) (path path' : Path) (inner inner' : Json) (r q : Result Fetch PlanFault) → ◌≡◌ {A = Path × Json} (path, inner) (path', inner') →
-    Says (entity s (suc b.nodes) inner) r → Says (entity s (suc b.nodes) inner') q → after (flattened b path) r ≡ after (flattened b path') q
+    IsAnswered (entity s (suc b.nodes) inner) r → IsAnswered (entity s (suc b.nodes) inner') q → after (flattened b path) r ≡ after (flattened b path') q
 flatten_once s b path path' inner inner' r q same l m =
-    let here : Says (entity s (suc b.nodes) inner') r = subst (λ (p : Path × Json). Says (entity s (suc b.nodes) p.1) r) same l in
+    let here : IsAnswered (entity s (suc b.nodes) inner') r = subst (λ (p : Path × Json). IsAnswered (entity s (suc b.nodes) p.1) r) same l in
     ap (λ (p : Path × Json). after (flattened b p.0) r) same ∙ ap (after (flattened b path')) (says_once (entity s (suc b.nodes) inner') r q here m)
 
 mutual
@@ -106,28 +106,28 @@ mutual
   nodes_once (another h l) (stops k) = absurd (not_both (node_once h k))
   nodes_once {s = s} (another {next = next} {vs = vs} {n = n} {r = r} h l) (another {next = next'} {n = n'} {r = q} k m) =
       let same : n ≡ n' = first_same (ok_same (node_once h k)) in
-      ap (λ (x : Node). after (with_first x) r) same ∙ ap (after (with_first n')) (nodes_once l (subst (λ (x : SoFar). AreNodes s x vs q) (sym (second_same (ok_same (node_once h k)))) m))
+      ap (λ (x : Node). after (with_first_node x) r) same ∙ ap (after (with_first_node n')) (nodes_once l (subst (λ (x : SoFar). AreNodes s x vs q) (sym (second_same (ok_same (node_once h k)))) m))
 
 -- ---- entries
 
-whole_once : (n : ℕ) (h : Head) (t : Result (Node × SoFar) PlanFault) (r q : Result Entry PlanFault) → IsWhole n h t r → IsWhole n h t q → r ≡ q
+whole_once : (n : ℕ) (h : Head) (t : Result (Node × SoFar) PlanFault) (r q : Result Entry PlanFault) → IsWholeEntry n h t r → IsWholeEntry n h t q → r ≡ q
 whole_once n h (Err f) r q a b = a ∙ sym b
-whole_once n h (Ok t) r q a b = says_once (whole n h t) r q a b
+whole_once n h (Ok t) r q a b = says_once (whole_entry n h t) r q a b
 
-plan_once : (n : ℕ) (read : Result Head PlanFault) (r q : Result Entry PlanFault) → HasPlan n read r → HasPlan n read q → r ≡ q
+plan_once : (n : ℕ) (read : Result Head PlanFault) (r q : Result Entry PlanFault) → HasEntry n read r → HasEntry n read q → r ≡ q
 plan_once n (Err f) r q a b = a ∙ sym b
-plan_once n (Ok h) r q (t, is, a) (u, is', b) = whole_once n h u r q (subst (λ x. IsWhole n h x r) (node_once is is') a) b
+plan_once n (Ok h) r q (t, is, a) (u, is', b) = whole_once n h u r q (subst (λ x. IsWholeEntry n h x r) (node_once is is') a) b
 
 entry_once : (n : ℕ) (v : Json) (r q : Result Entry PlanFault) → IsEntry n v r → IsEntry n v q → r ≡ q
-entry_once n v r q a b = plan_once n b.read r q (subst (λ x. HasPlan n x r) (says_once (head n v) a.read b.read a.head_is b.head_is) a.plan_is) b.plan_is
+entry_once n v r q a b = plan_once n b.read r q (subst (λ x. HasEntry n x r) (says_once (head n v) a.read b.read a.head_is b.head_is) a.plan_is) b.plan_is
 
-fresh_once : (n : ℕ) (seen : List (List ℕ)) (e r q : Result Entry PlanFault) → IsFresh n seen e r → IsFresh n seen e q → r ≡ q
+fresh_once : (n : ℕ) (seen : List (List ℕ)) (e r q : Result Entry PlanFault) → IsOfNewText n seen e r → IsOfNewText n seen e q → r ≡ q
 fresh_once n seen (Err f) r q a b = a ∙ sym b
-fresh_once n seen (Ok e) r q a b = says_once (fresh n seen e) r q a b
+fresh_once n seen (Ok e) r q a b = says_once (of_new_text n seen e) r q a b
 
-next_once : {n : ℕ} {seen : List (List ℕ)} {v : Json} {r q : Result Entry PlanFault} → IsNext n seen v r → IsNext n seen v q → r ≡ q
+next_once : {n : ℕ} {seen : List (List ℕ)} {v : Json} {r q : Result Entry PlanFault} → IsNextEntry n seen v r → IsNextEntry n seen v q → r ≡ q
 next_once {n = n} {seen = seen} {v = v} {r = r} {q = q} a b =
-    fresh_once n seen b.alone r q (subst (λ x. IsFresh n seen x r) (entry_once n v a.alone b.alone a.entry_is b.entry_is) a.fresh_is) b.fresh_is
+    fresh_once n seen b.alone r q (subst (λ x. IsOfNewText n seen x r) (entry_once n v a.alone b.alone a.entry_is b.entry_is) a.fresh_is) b.fresh_is
 
 entries_once : {vs : List Json} {n : ℕ} {seen : List (List ℕ)} {r q : Result (List Entry) PlanFault} → AreEntries vs n seen r → AreEntries vs n seen q → r ≡ q
 entries_once file.no_more file.no_more = refl
@@ -136,8 +136,8 @@ entries_once (file.stops h) (file.another k l) = absurd (not_both (sym (next_onc
 entries_once (file.another h l) (file.stops k) = absurd (not_both (next_once h k))
 entries_once (file.another {vs = vs} {n = n} {seen = seen} {e = e} {r = r} h l) (file.another {e = d} {r = q} k m) =
     let same : e ≡ d = ok_same (next_once h k) in
-    ap (λ (x : Entry). after (file.with_first x) r) same
-    ∙ ap (after (file.with_first d)) (entries_once l (subst (λ (x : Entry). AreEntries vs (suc n) (seen ++ (x.text ∷ [])) q) (sym same) m))
+    ap (λ (x : Entry). after (file.with_first_entry x) r) same
+    ∙ ap (after (file.with_first_entry d)) (entries_once l (subst (λ (x : Entry). AreEntries vs (suc n) (seen ++ (x.text ∷ [])) q) (sym same) m))
 
 few_once : (many : Bool) (items : List Json) (r q : Result (List Entry) PlanFault) → AreFew many items r → AreFew many items q → r ≡ q
 few_once true items r q a b = a ∙ sym b

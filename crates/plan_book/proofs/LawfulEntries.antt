@@ -13,17 +13,17 @@ use Rattle.gql_terms.specs.declared.documents.Document.{Document}
 use Rattle.gql_terms.specs.declared.documents.Operation.{Operation}
 use Rattle.plan_tree.specs.declared.plan.Node.{Node}
 use Rattle.plan_tree.specs.declared.plan.Fetch.{Fetch}
-use Rattle.plan_tree.specs.Lawful.{depth, fits, all_true, fetch_formed, differ}
-use Rattle.plan_tree.specs.Numbers.{counted}
+use Rattle.plan_tree.specs.Lawful.{depth, is_well_placed, all_true, fetch_formed, differ}
+use Rattle.plan_tree.specs.Numbers.{numbers_from}
 use Rattle.plan_book.specs.declared.book.Entry.{Entry}
 use Rattle.plan_book.specs.declared.fault.PlanFault.{PlanFault}
 use Rattle.plan_book.specs.declared.fault.PlanFault.TheVariants as fault
-use Rattle.plan_book.specs.Asking.{Read, made, ask_spread, needed, document_in, refused_if, stopped_by, Says}
+use Rattle.plan_book.specs.Asking.{Read, made, ask_spread, needed, document_in, refused_if, stopped_by, IsAnswered}
 use Rattle.plan_book.specs.Forms.{text_in, object_in}
 use Rattle.plan_book.specs.Fetches.{only_one}
 use Rattle.plan_book.specs.Nodes.{SoFar, nothing, after}
 use Rattle.plan_book.specs.Book.{text_of, IsLawfulEntry, AreLawful}
-use Rattle.plan_book.specs.PlanFile.{Head, head, excess_of, excess, answerable, with_kind, no_bad_spread, entry_of, whole, IsWhole, HasPlan, IsEntry, IsFresh, IsNext, with_first, AreEntries, no_more, stops, another}
+use Rattle.plan_book.specs.PlanFile.{Head, head, excess_of, excess, answerable, with_kind, no_bad_spread, entry_of, whole_entry, IsWholeEntry, HasEntry, IsEntry, IsOfNewText, IsNextEntry, with_first_entry, AreEntries, no_more, stops, another}
 use Rattle.plan_book.proofs.Keeping.{Keeps, NodeKept, node_kept}
 
 -- ---- one operation
@@ -37,7 +37,7 @@ abbrev OneOperation : Head → Type 0
 OneOperation h = length h.document.operations ≡ 1
 
 has_spread : (n : ℕ) (document : Document) (mutation : Bool) (spread : Option (List ℕ)) (plan : Option Json) (h : Head) → length document.operations ≡ 1 →
-    Says (no_bad_spread n spread (needed (fault.Field n (codes "plan")) plan (λ plan. made (record { document = document; mutation = mutation; plan = plan })))) (Ok h) → OneOperation h
+    IsAnswered (no_bad_spread n spread (needed (fault.Field n (codes "plan")) plan (λ plan. made (record { document = document; mutation = mutation; plan = plan })))) (Ok h) → OneOperation h
 has_spread n document mutation (Some name) plan h one says = absurd cc
 has_spread n document mutation None None h one says = absurd cc
 has_spread n document mutation None (Some plan) h one says =
@@ -52,19 +52,19 @@ head_by n operation plan =
     needed (fault.Field n (codes "plan")) plan (λ plan.
     made (record { document = operation.0; mutation = operation.1; plan = plan })))))
 
-by_kind : (n : ℕ) (document : Document) (mutation : Option Bool) (plan : Option Json) (h : Head) → only_one document.operations ≡ mutation → Says (head_by n (with_kind document mutation) plan) (Ok h) → OneOperation h
+by_kind : (n : ℕ) (document : Document) (mutation : Option Bool) (plan : Option Json) (h : Head) → only_one document.operations ≡ mutation → IsAnswered (head_by n (with_kind document mutation) plan) (Ok h) → OneOperation h
 by_kind n document None plan h is says = absurd cc
 by_kind n document (Some mutation) plan h is (name, first, says) = has_spread n document mutation name plan h (one_operation document.operations mutation is) says
 
-by_document : (n : ℕ) (document : Option Document) (plan : Option Json) (h : Head) → Says (head_by n (answerable document) plan) (Ok h) → OneOperation h
+by_document : (n : ℕ) (document : Option Document) (plan : Option Json) (h : Head) → IsAnswered (head_by n (answerable document) plan) (Ok h) → OneOperation h
 by_document n None plan h says = absurd cc
 by_document n (Some document) plan h says = by_kind n document (only_one document.operations) plan h refl says
 
-by_text : (n : ℕ) (text : Option (List ℕ)) (plan : Option Json) (h : Head) → Says (document_in text (λ document. head_by n (answerable document) plan)) (Ok h) → OneOperation h
+by_text : (n : ℕ) (text : Option (List ℕ)) (plan : Option Json) (h : Head) → IsAnswered (document_in text (λ document. head_by n (answerable document) plan)) (Ok h) → OneOperation h
 by_text n None plan h says = by_document n None plan h says
 by_text n (Some text) plan h (d, stands, says) = by_document n d plan h says
 
-head_one : (n : ℕ) (v : Json) (h : Head) → Says (head n v) (Ok h) → OneOperation h
+head_one : (n : ℕ) (v : Json) (h : Head) → IsAnswered (head n v) (Ok h) → OneOperation h
 head_one n v h says = by_text n (text_in (member v (codes "operation"))) (object_in (member v (codes "plan"))) h says
 
 -- ---- a lawful plan
@@ -73,11 +73,11 @@ within : (a b : ℕ) → nat_lt a b ≡ false → b ≤ a
 within a b e = grind (arith, nat_tests)
 
 -- what is not refused
-passed : {X : Type 0} (b : Bool) (f : PlanFault) (read : Read X) (x : X) → Says (refused_if b f read) (Ok x) → (b ≡ false) × Says read (Ok x)
+passed : {X : Type 0} (b : Bool) (f : PlanFault) (read : Read X) (x : X) → IsAnswered (refused_if b f read) (Ok x) → (b ≡ false) × IsAnswered read (Ok x)
 passed true f read x says = absurd cc
 passed false f read x says = (refl, says)
 
-unstopped : {X : Type 0} (o : Option PlanFault) (read : Read X) (x : X) → Says (stopped_by o read) (Ok x) → (o ≡ None) × Says read (Ok x)
+unstopped : {X : Type 0} (o : Option PlanFault) (read : Read X) (x : X) → IsAnswered (stopped_by o read) (Ok x) → (o ≡ None) × IsAnswered read (Ok x)
 unstopped None read x says = (refl, says)
 unstopped (Some f) read x says = absurd cc
 
@@ -86,7 +86,7 @@ no_excess n fetches nodes true deep is = absurd cc
 no_excess n fetches nodes false true is = absurd cc
 no_excess n fetches nodes false false is = (refl, refl)
 
-lawful_plan : (n : ℕ) (h : Head) (t : Node × SoFar) (e : Entry) → OneOperation h → Keeps [] t.0 t.1.fetches → Says (whole n h t) (Ok e) → IsLawfulEntry e
+lawful_plan : (n : ℕ) (h : Head) (t : Node × SoFar) (e : Entry) → OneOperation h → Keeps [] t.0 t.1.fetches → IsAnswered (whole_entry n h t) (Ok e) → IsLawfulEntry e
 lawful_plan n h t e one keeps says =
     let parts = unstopped (excess n (length t.1.fetches) (depth t.0)) (made (entry_of h t)) e says in
     let sizes = no_excess n (length t.1.fetches) (depth t.0) (nat_lt 64 (length t.1.fetches)) (nat_lt 16 (depth t.0)) parts.0 in
@@ -96,26 +96,26 @@ lawful_plan n h t e one keeps says =
     subst IsLawfulEntry e_is (record {
       one = one;
       plan = record {
-        numbered = keeps.numbered ∙ ap (λ (fs : List Fetch). counted (length fs) 0) (sym own_is);
+        numbered = keeps.numbered ∙ ap (λ (fs : List Fetch). numbers_from (length fs) 0) (sym own_is);
         few = within 64 (length t.1.fetches) sizes.0;
         flat = within 16 (depth t.0) sizes.1;
-        fit = ap (λ (fs : List Fetch). fits fs t.0) (own_is ∙ sym (append-nil keeps.own)) ∙ keeps.fit [];
+        fit = ap (λ (fs : List Fetch). is_well_placed fs t.0) (own_is ∙ sym (append-nil keeps.own)) ∙ keeps.fit [];
         well_formed = ap (λ (fs : List Fetch). all_true (map fetch_formed fs)) own_is ∙ keeps.formed;
       };
     })
 
-by_nodes : (n : ℕ) (h : Head) (t : Result (Node × SoFar) PlanFault) (e : Entry) → OneOperation h → NodeKept nothing t → IsWhole n h t (Ok e) → IsLawfulEntry e
+by_nodes : (n : ℕ) (h : Head) (t : Result (Node × SoFar) PlanFault) (e : Entry) → OneOperation h → NodeKept nothing t → IsWholeEntry n h t (Ok e) → IsLawfulEntry e
 by_nodes n h (Err f) e one keeps says = absurd cc
 by_nodes n h (Ok t) e one keeps says = lawful_plan n h t e one keeps says
 
-by_head : (n : ℕ) (v : Json) (read : Result Head PlanFault) (e : Entry) → Says (head n v) read → HasPlan n read (Ok e) → IsLawfulEntry e
+by_head : (n : ℕ) (v : Json) (read : Result Head PlanFault) (e : Entry) → IsAnswered (head n v) read → HasEntry n read (Ok e) → IsLawfulEntry e
 by_head n v (Err f) e says is = absurd cc
 by_head n v (Ok h) e says (t, nodes, is) = by_nodes n h t e (head_one n v h says) (node_kept nodes) is
 
 entry_lawful : (n : ℕ) (v : Json) (e : Entry) → IsEntry n v (Ok e) → IsLawfulEntry e
 entry_lawful n v e h = by_head n v h.read e h.head_is h.plan_is
 
-by_fresh : (n : ℕ) (seen : List (List ℕ)) (v : Json) (alone : Result Entry PlanFault) (e : Entry) → IsEntry n v alone → IsFresh n seen alone (Ok e) → IsLawfulEntry e × (list_any (bytes_eq e.text) seen ≡ false)
+by_fresh : (n : ℕ) (seen : List (List ℕ)) (v : Json) (alone : Result Entry PlanFault) (e : Entry) → IsEntry n v alone → IsOfNewText n seen alone (Ok e) → IsLawfulEntry e × (list_any (bytes_eq e.text) seen ≡ false)
 by_fresh n seen v (Err f) e h k = absurd cc
 by_fresh n seen v (Ok d) e h k =
     let new = passed (list_any (bytes_eq d.text) seen) (fault.Twice n) (made d) e k in
@@ -123,7 +123,7 @@ by_fresh n seen v (Ok d) e h k =
     let e_is : d ≡ e = cc in
     (subst IsLawfulEntry e_is (entry_lawful n v d h), ap (λ (x : Entry). list_any (bytes_eq x.text) seen) (sym e_is) ∙ new.0)
 
-next_lawful : (n : ℕ) (seen : List (List ℕ)) (v : Json) (e : Entry) → IsNext n seen v (Ok e) → IsLawfulEntry e × (list_any (bytes_eq e.text) seen ≡ false)
+next_lawful : (n : ℕ) (seen : List (List ℕ)) (v : Json) (e : Entry) → IsNextEntry n seen v (Ok e) → IsLawfulEntry e × (list_any (bytes_eq e.text) seen ≡ false)
 next_lawful n seen v e h = by_fresh n seen v h.alone e h.entry_is h.fresh_is
 
 -- ---- distinct texts
@@ -157,7 +157,7 @@ Kept vs seen (Ok es) =
     (length es ≡ length vs) × All IsLawfulEntry es × (differ (map text_of es) ≡ true)
     × ((t : List ℕ) (before later : List (List ℕ)) → seen ≡ before ++ (t ∷ later) → list_any (bytes_eq t) (map text_of es) ≡ false)
 
-one_more : (v : Json) (vs : List Json) (n : ℕ) (seen : List (List ℕ)) (e : Entry) (r : Result (List Entry) PlanFault) → IsNext n seen v (Ok e) → Kept vs (seen ++ (e.text ∷ [])) r → Kept (v ∷ vs) seen (after (with_first e) r)
+one_more : (v : Json) (vs : List Json) (n : ℕ) (seen : List (List ℕ)) (e : Entry) (r : Result (List Entry) PlanFault) → IsNextEntry n seen v (Ok e) → Kept vs (seen ++ (e.text ∷ [])) r → Kept (v ∷ vs) seen (after (with_first_entry e) r)
 one_more v vs n seen e (Err f) h k = tt
 one_more v vs n seen e (Ok es) h (long, lawful, distinct, others) =
     let this = next_lawful n seen v e h in (

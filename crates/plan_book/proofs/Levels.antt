@@ -7,8 +7,8 @@ use Rattle.plan_tree.specs.declared.plan.Node.TheVariants as node
 use Rattle.plan_tree.specs.declared.plan.Node.TheOpen.{Node-F}
 use Rattle.plan_tree.specs.declared.plan.Node.TheFolds.{fold-Node, fold-roll-Node}
 use Rattle.plan_tree.specs.declared.plan.Fetch.{Fetch}
-use Rattle.plan_tree.specs.Lawful.{fits_step, fits, is_some_of, all_true, is_root, is_entity}
-use Rattle.plan_tree.specs.Numbers.{joined, numbers_step, numbers, counted}
+use Rattle.plan_tree.specs.Lawful.{fits_step, is_well_placed, is_some_of, all_true, is_root, is_entity}
+use Rattle.plan_tree.specs.Numbers.{joined, numbers_step, numbers, numbers_from}
 
 pub numbers-fetch : (n : ℕ) → numbers (node.Fetch n) ≡ n ∷ []
 unfolding numbers
@@ -31,25 +31,25 @@ some-mapped f [] = refl
 some-mapped f (x ∷ xs) = refl
 
 module _ (fetches : List Fetch) where
-  pub fits-fetch : (n : ℕ) → fits fetches (node.Fetch n) ≡ is_root (slice_get fetches n)
-  unfolding fits
+  pub fits-fetch : (n : ℕ) → is_well_placed fetches (node.Fetch n) ≡ is_root (slice_get fetches n)
+  unfolding is_well_placed
   fits-fetch n = ap (fold-Node Bool (fits_step fetches)) (sym (node.rolls-Fetch n)) ∙ fold-roll-Node Bool (fits_step fetches) (Node-F.Fetch n)
 
-  pub fits-flatten : (path : Path) (n : ℕ) → fits fetches (node.Flatten path n) ≡ (is_some_of path.steps && is_entity (slice_get fetches n))
-  unfolding fits
+  pub fits-flatten : (path : Path) (n : ℕ) → is_well_placed fetches (node.Flatten path n) ≡ (is_some_of path.steps && is_entity (slice_get fetches n))
+  unfolding is_well_placed
   fits-flatten path n = ap (fold-Node Bool (fits_step fetches)) (sym (node.rolls-Flatten path n)) ∙ fold-roll-Node Bool (fits_step fetches) (Node-F.Flatten path n)
 
-  pub fits-sequence : (ns : List Node) → fits fetches (node.Sequence ns) ≡ (is_some_of ns && all_true (map (fits fetches) ns))
-  unfolding fits
+  pub fits-sequence : (ns : List Node) → is_well_placed fetches (node.Sequence ns) ≡ (is_some_of ns && all_true (map (is_well_placed fetches) ns))
+  unfolding is_well_placed
   fits-sequence ns = ap (fold-Node Bool (fits_step fetches)) (sym (node.rolls-Sequence ns)) ∙ fold-roll-Node Bool (fits_step fetches) (Node-F.Sequence ns)
       ∙ ap (λ (b : Bool). b && all_true (map (fold-Node Bool (fits_step fetches)) ns)) (some-mapped (fold-Node Bool (fits_step fetches)) ns)
 
-  pub fits-parallel : (ns : List Node) → fits fetches (node.Parallel ns) ≡ (is_some_of ns && all_true (map (fits fetches) ns))
-  unfolding fits
+  pub fits-parallel : (ns : List Node) → is_well_placed fetches (node.Parallel ns) ≡ (is_some_of ns && all_true (map (is_well_placed fetches) ns))
+  unfolding is_well_placed
   fits-parallel ns = ap (fold-Node Bool (fits_step fetches)) (sym (node.rolls-Parallel ns)) ∙ fold-roll-Node Bool (fits_step fetches) (Node-F.Parallel ns)
       ∙ ap (λ (b : Bool). b && all_true (map (fold-Node Bool (fits_step fetches)) ns)) (some-mapped (fold-Node Bool (fits_step fetches)) ns)
 
-pub counted-add : (n m from : ℕ) → counted (n + m) from ≡ counted n from ++ counted m (n + from)
+pub counted-add : (n m from : ℕ) → numbers_from (n + m) from ≡ numbers_from n from ++ numbers_from m (n + from)
 counted-add zero m from = let e : zero + m ≡ m = omega arith in let f : zero + from ≡ from = omega arith in rw (e, f) refl
 counted-add (suc n) m from =
     let e : suc n + m ≡ suc (n + m) = omega arith in

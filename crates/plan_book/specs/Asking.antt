@@ -1,5 +1,5 @@
 -- What is made of a part of a plan file, or its fault, where on the way the grammar of GraphQL is asked about texts.
--- What is asked stands in the value itself, and what the grammar answers is said by `Says`: which texts are documents is
+-- What is asked stands in the value itself, and what the grammar answers is said by `IsAnswered`: which texts are documents is
 -- said in GraphQL, October 2021, section 2, and which spreads are bad in sections 5.5.2.1 and 5.5.2.2.
 use Rattle.std.specs.Prelude.{◌≡◌, ◌≢◌, ℕ, Bool, true, false, List, Option, Some, None, Result, Ok, Err}
 use Rattle.gql_terms.specs.declared.documents.Document.{Document}
@@ -17,16 +17,16 @@ pub data Read (X : Type 0) : Type 0 where
   ask_spread : Document → (Option (List ℕ) → Read X) → Read X
 
 -- the document that the text is, or that it is none
-abbrev pub Stands : List ℕ → Option Document → Type 0
-Stands text None = (d : Document) → IsText d text → ⊥
-Stands text (Some d) = IsText d text
+abbrev pub IsDocumentOf : List ℕ → Option Document → Type 0
+IsDocumentOf text None = (d : Document) → IsText d text → ⊥
+IsDocumentOf text (Some d) = IsText d text
 
 -- the result, where the grammar answers what is asked
-abbrev pub Says : {X : Type 0} → Read X → Result X PlanFault → Type 0
-Says (faulty f) result = result ≡ Err f
-Says (made x) result = result ≡ Ok x
-Says (ask_document text onward) result = (d : Option Document) × Stands text d × Says (onward d) result
-Says (ask_spread document onward) result = (name : Option (List ℕ)) × IsFirstBad document name × Says (onward name) result
+abbrev pub IsAnswered : {X : Type 0} → Read X → Result X PlanFault → Type 0
+IsAnswered (faulty f) result = result ≡ Err f
+IsAnswered (made x) result = result ≡ Ok x
+IsAnswered (ask_document text onward) result = (d : Option Document) × IsDocumentOf text d × IsAnswered (onward d) result
+IsAnswered (ask_spread document onward) result = (name : Option (List ℕ)) × IsFirstBad document name × IsAnswered (onward name) result
 
 -- a call answers so, or that memory ran out
 abbrev pub OrMemory : {X : Type 0} → (Result X PlanFault → Type 0) → Result X PlanFault → Type 0
@@ -56,4 +56,4 @@ document_in (Some text) onward = ask_document text onward
 -- what stands for it, where there is a text
 abbrev pub StandsIn : Option (List ℕ) → Option Document → Type 0
 StandsIn None d = d ≡ None
-StandsIn (Some text) d = Stands text d
+StandsIn (Some text) d = IsDocumentOf text d

@@ -8,7 +8,7 @@ abbrev pub so_far : Draft → SoFar
 so_far draft = record { nodes = length draft.levels.items; fetches = draft.fetches.items }
 
 -- so many nodes stand around what comes next, and they were noted
-pub record IsInside (draft : Draft) (around : ℕ) : Type 0 where
+pub record StandsInside (draft : Draft) (around : ℕ) : Type 0 where
   pub noted : around ≤ length draft.levels.items
   pub reached : around ≤ deepest draft.levels.items
 

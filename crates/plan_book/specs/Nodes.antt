@@ -11,7 +11,7 @@ use Rattle.plan_book.specs.declared.kinds.Kind.TheVariants as kinds
 use Rattle.plan_book.specs.declared.kinds.Standing.{Standing}
 use Rattle.plan_book.specs.declared.fault.PlanFault.{PlanFault}
 use Rattle.plan_book.specs.declared.fault.PlanFault.TheVariants as fault
-use Rattle.plan_book.specs.Asking.{Says}
+use Rattle.plan_book.specs.Asking.{IsAnswered}
 use Rattle.plan_book.specs.Forms.{children_in, kind_of}
 use Rattle.plan_book.specs.Fetches.{fetch, flatten, entity}
 
@@ -29,8 +29,8 @@ after make (Ok x) = Ok (make x)
 after make (Err f) = Err f
 
 -- one node more, without a fetch of its own
-abbrev pub past : SoFar → SoFar
-past b = record { nodes = suc b.nodes; fetches = b.fetches }
+abbrev pub one_node_more : SoFar → SoFar
+one_node_more b = record { nodes = suc b.nodes; fetches = b.fetches }
 
 -- one fetch more
 abbrev pub with_fetch : SoFar → Fetch → SoFar
@@ -38,17 +38,17 @@ with_fetch b x = record { nodes = b.nodes; fetches = b.fetches ++ (x ∷ []) }
 
 -- fetches are numbered in their order
 abbrev pub fetched : SoFar → Fetch → Node × SoFar
-fetched b x = (node.Fetch (length b.fetches), with_fetch (past b) x)
+fetched b x = (node.Fetch (length b.fetches), with_fetch (one_node_more b) x)
 
 -- a Flatten, and the fetch in it, are two nodes
 abbrev pub flattened : SoFar → Path → Fetch → Node × SoFar
-flattened b path x = (node.Flatten path (length b.fetches), with_fetch (past (past b)) x)
+flattened b path x = (node.Flatten path (length b.fetches), with_fetch (one_node_more (one_node_more b)) x)
 
 abbrev pub gathered : (List Node → Node) → List Node × SoFar → Node × SoFar
 gathered make p = (make p.0, p.1)
 
-abbrev pub with_first : Node → List Node × SoFar → List Node × SoFar
-with_first n p = (n ∷ p.0, p.1)
+abbrev pub with_first_node : Node → List Node × SoFar → List Node × SoFar
+with_first_node n p = (n ∷ p.0, p.1)
 
 mutual
   -- the value is read as this node, or has this fault
@@ -59,11 +59,11 @@ mutual
   pub data IsOfKind (s : Standing) : Option Kind → SoFar → Json → Result (Node × SoFar) PlanFault → Type 0 where
     of_no_kind : {b : SoFar} {v : Json} → IsOfKind s None b v (Err (fault.Kind s.entry b.nodes))
     is_fetch : {b : SoFar} {v : Json} (r : Result Fetch PlanFault) →
-        Says (fetch s false b.nodes v) r → IsOfKind s (Some kinds.Fetch) b v (after (fetched b) r)
+        IsAnswered (fetch s false b.nodes v) r → IsOfKind s (Some kinds.Fetch) b v (after (fetched b) r)
     no_flatten : {b : SoFar} {v : Json} {f : PlanFault} →
-        Says (flatten s.entry v) (Err f) → IsOfKind s (Some kinds.Flatten) b v (Err f)
+        IsAnswered (flatten s.entry v) (Err f) → IsOfKind s (Some kinds.Flatten) b v (Err f)
     is_flatten : {b : SoFar} {v : Json} (path : Path) (inner : Json) (r : Result Fetch PlanFault) →
-        Says (flatten s.entry v) (Ok (path, inner)) → Says (entity s (suc b.nodes) inner) r → IsOfKind s (Some kinds.Flatten) b v (after (flattened b path) r)
+        IsAnswered (flatten s.entry v) (Ok (path, inner)) → IsAnswered (entity s (suc b.nodes) inner) r → IsOfKind s (Some kinds.Flatten) b v (after (flattened b path) r)
     is_sequence : {b : SoFar} {v : Json} {r : Result (List Node × SoFar) PlanFault} →
         AreInside s (children_in (member v (codes "nodes"))) b r → IsOfKind s (Some kinds.Sequence) b v (after (gathered node.Sequence) r)
     is_parallel : {b : SoFar} {v : Json} {r : Result (List Node × SoFar) PlanFault} →
@@ -72,11 +72,11 @@ mutual
   -- the nodes in a Sequence or Parallel
   pub data AreInside (s : Standing) : Option (List Json) → SoFar → Result (List Node × SoFar) PlanFault → Type 0 where
     no_nodes : {b : SoFar} → AreInside s None b (Err (fault.Field s.entry (codes "nodes")))
-    in_order : {b : SoFar} {vs : List Json} {r : Result (List Node × SoFar) PlanFault} → AreNodes s (past b) vs r → AreInside s (Some vs) b r
+    in_order : {b : SoFar} {vs : List Json} {r : Result (List Node × SoFar) PlanFault} → AreNodes s (one_node_more b) vs r → AreInside s (Some vs) b r
 
   -- one after the other, until one has a fault
   pub data AreNodes (s : Standing) : SoFar → List Json → Result (List Node × SoFar) PlanFault → Type 0 where
     no_more : {b : SoFar} → AreNodes s b [] (Ok ([], b))
     stops : {b : SoFar} {v : Json} {vs : List Json} {f : PlanFault} → IsNode s b v (Err f) → AreNodes s b (v ∷ vs) (Err f)
     another : {b next : SoFar} {v : Json} {vs : List Json} {n : Node} {r : Result (List Node × SoFar) PlanFault} →
-        IsNode s b v (Ok (n, next)) → AreNodes s next vs r → AreNodes s b (v ∷ vs) (after (with_first n) r)
+        IsNode s b v (Ok (n, next)) → AreNodes s next vs r → AreNodes s b (v ∷ vs) (after (with_first_node n) r)

@@ -1,5 +1,5 @@
 -- What a plan file says, or its first fault: entry by entry, and in an entry its operation, its plan's nodes, and then
--- what concerns the whole entry.
+-- what concerns the whole_entry entry.
 use Rattle.std.specs.Prelude.{◌≡◌, ℕ, suc, Bool, true, false, not, nat_lt, List, [], ◌∷◌, ◌++◌, Option, Some, None, Result, Ok, Err, length, codes}
 use Rattle.std.specs.List.{list_any}
 use Rattle.std.specs.Str.{bytes_eq}
@@ -13,7 +13,7 @@ use Rattle.plan_book.specs.declared.kinds.Standing.{Standing}
 use Rattle.plan_book.specs.declared.book.Entry.{Entry}
 use Rattle.plan_book.specs.declared.fault.PlanFault.{PlanFault}
 use Rattle.plan_book.specs.declared.fault.PlanFault.TheVariants as fault
-use Rattle.plan_book.specs.Asking.{Read, faulty, made, needed, refused_if, stopped_by, document_in, ask_spread, Says}
+use Rattle.plan_book.specs.Asking.{Read, faulty, made, needed, refused_if, stopped_by, document_in, ask_spread, IsAnswered}
 use Rattle.plan_book.specs.Forms.{text_in, object_in, elements}
 use Rattle.plan_book.specs.Fetches.{only_one}
 use Rattle.plan_book.specs.Nodes.{SoFar, nothing, after, IsNode}
@@ -61,50 +61,50 @@ excess_of n fetches nodes false false = None
 abbrev pub excess : ℕ → ℕ → ℕ → Option PlanFault
 excess n fetches nodes = excess_of n fetches nodes (nat_lt 64 fetches) (nat_lt 16 nodes)
 
-abbrev pub whole : ℕ → Head → Node × SoFar → Read Entry
-whole n h t = stopped_by (excess n (length t.1.fetches) (depth t.0)) (made (entry_of h t))
+abbrev pub whole_entry : ℕ → Head → Node × SoFar → Read Entry
+whole_entry n h t = stopped_by (excess n (length t.1.fetches) (depth t.0)) (made (entry_of h t))
 
 abbrev pub standing : ℕ → Head → Standing
 standing n h = record { entry = n; of_query = not h.mutation }
 
-abbrev pub IsWhole : ℕ → Head → Result (Node × SoFar) PlanFault → Result Entry PlanFault → Type 0
-IsWhole n h (Err f) r = r ≡ Err f
-IsWhole n h (Ok t) r = Says (whole n h t) r
+abbrev pub IsWholeEntry : ℕ → Head → Result (Node × SoFar) PlanFault → Result Entry PlanFault → Type 0
+IsWholeEntry n h (Err f) r = r ≡ Err f
+IsWholeEntry n h (Ok t) r = IsAnswered (whole_entry n h t) r
 
-abbrev pub HasPlan : ℕ → Result Head PlanFault → Result Entry PlanFault → Type 0
-HasPlan n (Err f) r = r ≡ Err f
-HasPlan n (Ok h) r = (t : Result (Node × SoFar) PlanFault) × IsNode (standing n h) nothing h.plan t × IsWhole n h t r
+abbrev pub HasEntry : ℕ → Result Head PlanFault → Result Entry PlanFault → Type 0
+HasEntry n (Err f) r = r ≡ Err f
+HasEntry n (Ok h) r = (t : Result (Node × SoFar) PlanFault) × IsNode (standing n h) nothing h.plan t × IsWholeEntry n h t r
 
 -- entry n by itself
 pub record IsEntry (n : ℕ) (v : Json) (r : Result Entry PlanFault) : Type 0 where
   pub read : Result Head PlanFault
-  pub head_is : Says (head n v) read
-  pub plan_is : HasPlan n read r
+  pub head_is : IsAnswered (head n v) read
+  pub plan_is : HasEntry n read r
 
-abbrev pub fresh : ℕ → List (List ℕ) → Entry → Read Entry
-fresh n seen e = refused_if (list_any (bytes_eq e.text) seen) (fault.Twice n) (made e)
+abbrev pub of_new_text : ℕ → List (List ℕ) → Entry → Read Entry
+of_new_text n seen e = refused_if (list_any (bytes_eq e.text) seen) (fault.Twice n) (made e)
 
-abbrev pub IsFresh : ℕ → List (List ℕ) → Result Entry PlanFault → Result Entry PlanFault → Type 0
-IsFresh n seen (Err f) r = r ≡ Err f
-IsFresh n seen (Ok e) r = Says (fresh n seen e) r
+abbrev pub IsOfNewText : ℕ → List (List ℕ) → Result Entry PlanFault → Result Entry PlanFault → Type 0
+IsOfNewText n seen (Err f) r = r ≡ Err f
+IsOfNewText n seen (Ok e) r = IsAnswered (of_new_text n seen e) r
 
 -- entry n after those with these texts: none of them has its text
-pub record IsNext (n : ℕ) (seen : List (List ℕ)) (v : Json) (r : Result Entry PlanFault) : Type 0 where
+pub record IsNextEntry (n : ℕ) (seen : List (List ℕ)) (v : Json) (r : Result Entry PlanFault) : Type 0 where
   pub alone : Result Entry PlanFault
   pub entry_is : IsEntry n v alone
-  pub fresh_is : IsFresh n seen alone r
+  pub fresh_is : IsOfNewText n seen alone r
 
 -- ---- the list
 
-abbrev pub with_first : Entry → List Entry → List Entry
-with_first e es = e ∷ es
+abbrev pub with_first_entry : Entry → List Entry → List Entry
+with_first_entry e es = e ∷ es
 
 -- the entries from entry n on, after those with these texts, until one has a fault
 pub data AreEntries : List Json → ℕ → List (List ℕ) → Result (List Entry) PlanFault → Type 0 where
   no_more : {n : ℕ} {seen : List (List ℕ)} → AreEntries [] n seen (Ok [])
-  stops : {v : Json} {vs : List Json} {n : ℕ} {seen : List (List ℕ)} {f : PlanFault} → IsNext n seen v (Err f) → AreEntries (v ∷ vs) n seen (Err f)
+  stops : {v : Json} {vs : List Json} {n : ℕ} {seen : List (List ℕ)} {f : PlanFault} → IsNextEntry n seen v (Err f) → AreEntries (v ∷ vs) n seen (Err f)
   another : {v : Json} {vs : List Json} {n : ℕ} {seen : List (List ℕ)} {e : Entry} {r : Result (List Entry) PlanFault} →
-      IsNext n seen v (Ok e) → AreEntries vs (suc n) (seen ++ (e.text ∷ [])) r → AreEntries (v ∷ vs) n seen (after (with_first e) r)
+      IsNextEntry n seen v (Ok e) → AreEntries vs (suc n) (seen ++ (e.text ∷ [])) r → AreEntries (v ∷ vs) n seen (after (with_first_entry e) r)
 
 abbrev pub AreFew : Bool → List Json → Result (List Entry) PlanFault → Type 0
 AreFew true items r = r ≡ Err (fault.TooMany 1000 (length items))

@@ -3,7 +3,7 @@
 ghost use Rattle.std.specs.Prelude.{◌≡◌, ◌≢◌, IfOk, true};
 ghost use Rattle.std.specs.Option.{option_copied};
 ghost use Rattle.plan_book.specs.declared.fault.PlanFault.TheVariants as faults;
-ghost use Rattle.plan_book.specs.Asking.{StandsIn, OrMemory, Says};
+ghost use Rattle.plan_book.specs.Asking.{StandsIn, OrMemory, IsAnswered};
 ghost use Rattle.plan_book.specs.Fetches as spec;
 
 use crate::fault::PlanFault;
@@ -100,7 +100,7 @@ pub fn fetch(
     in_flatten: bool,
     number: u64,
 ) -> Result<Fetch, PlanFault>
-    ensures { OrMemory (Says (spec.fetch standing in_flatten number value.now)) result }
+    ensures { OrMemory (IsAnswered (spec.fetch standing in_flatten number value.now)) result }
 {
     let entry = standing.entry;
     let Some(sub) = text_member(value, "subgraph") else {
@@ -131,7 +131,7 @@ pub fn fetch(
 /// The fault of a Flatten that stands in a Flatten.
 fn flatten_in_flatten(alloc: Global, value: &Json, entry: u64, number: u64) -> PlanFault
     ensures { result ≢ faults.Memory
-        → Says (spec.nested_flatten entry number value.now) (Err result) }
+        → IsAnswered (spec.nested_flatten entry number value.now) (Err result) }
 {
     match path(alloc, value) {
         Ok(Some(_)) => {}
@@ -146,7 +146,7 @@ fn flatten_in_flatten(alloc: Global, value: &Json, entry: u64, number: u64) -> P
 
 /// The fault of a Sequence or Parallel that stands in a Flatten.
 fn many_in_flatten(alloc: Global, value: &Json, entry: u64, number: u64) -> PlanFault
-    ensures { result ≢ faults.Memory → Says (spec.nested_many entry number value.now) (Err result) }
+    ensures { result ≢ faults.Memory → IsAnswered (spec.nested_many entry number value.now) (Err result) }
 {
     match children(value) {
         Some(_) => PlanFault::Nesting(entry, number),
@@ -161,7 +161,7 @@ pub fn entity(
     standing: Standing,
     number: u64,
 ) -> Result<Fetch, PlanFault>
-    ensures { OrMemory (Says (spec.entity standing number value.now)) result }
+    ensures { OrMemory (IsAnswered (spec.entity standing number value.now)) result }
 {
     match kind(value) {
         Some(Kind::Fetch) => fetch(alloc, value, standing, true, number),

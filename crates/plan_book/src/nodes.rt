@@ -6,8 +6,8 @@ ghost use Rattle.plan_tree.specs.Lawful.{depth, deepest};
 ghost use Rattle.plan_book.specs.declared.fault.PlanFault.TheVariants as faults;
 ghost use Rattle.plan_book.specs.declared.kinds.Kind.TheVariants as kinds;
 ghost use Rattle.plan_book.specs.Forms as forms;
-ghost use Rattle.plan_book.specs.Nodes.{IsNode, IsOfKind, AreInside, AreNodes, past, with_fetch};
-ghost use Rattle.plan_book.specs.Drafts.{so_far, IsInside, Deepens};
+ghost use Rattle.plan_book.specs.Nodes.{IsNode, IsOfKind, AreInside, AreNodes, one_node_more, with_fetch};
+ghost use Rattle.plan_book.specs.Drafts.{so_far, StandsInside, Deepens};
 
 use crate::fault::PlanFault;
 use crate::fetches::{bad_member, entity, fetch};
@@ -28,10 +28,10 @@ pub struct Draft {
 
 /// Notes one node more, in which so many stand around it.
 fn enter(draft: &mut Draft, around: u64) -> Result<(), Memory>
-    requires { IsInside draft.old around }
-    ensures nodes { OnOk result (so_far draft.new ≡ past (so_far draft.old)) }
+    requires { StandsInside draft.old around }
+    ensures nodes { OnOk result (so_far draft.new ≡ one_node_more (so_far draft.old)) }
     ensures levels { OnOk result (Deepens draft.old draft.new around 1) }
-    ensures inside { OnOk result (IsInside draft.new (around + 1)) }
+    ensures inside { OnOk result (StandsInside draft.new (around + 1)) }
 {
     draft.levels.push(around + 1)?;
     Ok(())
@@ -55,7 +55,7 @@ fn fetch_node(
     around: u64,
     draft: &mut Draft,
 ) -> Result<Node, PlanFault>
-    requires { IsInside draft.old around }
+    requires { StandsInside draft.old around }
     ensures node { IfOk result
         (λ n. IsOfKind standing (Some kinds.Fetch) (so_far draft.old) value.now
         (Ok (n, so_far draft.new))) }
@@ -76,7 +76,7 @@ fn flatten_node(
     around: u64,
     draft: &mut Draft,
 ) -> Result<Node, PlanFault>
-    requires { IsInside draft.old around }
+    requires { StandsInside draft.old around }
     ensures node { IfOk result
         (λ n. IsOfKind standing (Some kinds.Flatten) (so_far draft.old) value.now
         (Ok (n, so_far draft.new))) }
@@ -107,7 +107,7 @@ pub fn node(
     around: u64,
     draft: &mut Draft,
 ) -> Result<Node, PlanFault>
-    requires { IsInside draft.old around }
+    requires { StandsInside draft.old around }
     ensures node { IfOk result
         (λ n. IsNode standing (so_far draft.old) value.now (Ok (n, so_far draft.new))) }
     ensures fault { IfErr result (λ f. f ≢ faults.Memory
@@ -138,7 +138,7 @@ fn inside(
     around: u64,
     draft: &mut Draft,
 ) -> Result<Items<Node>, PlanFault>
-    requires { IsInside draft.old around }
+    requires { StandsInside draft.old around }
     ensures nodes { IfOk result
         (λ ns. AreInside standing (forms.children_in (by_name.member value.now (codes "nodes")))
         (so_far draft.old) (Ok (ns, so_far draft.new))) }
@@ -164,7 +164,7 @@ fn nodes(
     around: u64,
     draft: &mut Draft,
 ) -> Result<Items<Node>, PlanFault>
-    requires { IsInside draft.old around }
+    requires { StandsInside draft.old around }
     ensures nodes { IfOk result
         (λ ns. AreNodes standing (so_far draft.old) values.now (Ok (ns, so_far draft.new))) }
     ensures fault { IfErr result (λ f. f ≢ faults.Memory

@@ -4,9 +4,9 @@ ghost use Rattle.std.specs.Prelude.{◌≡◌, ◌≢◌, ◌++◌, ◌∷◌, [
 ghost use Rattle.plan_book.specs.declared.book.Entry as books;
 ghost use Rattle.plan_book.specs.declared.fault.PlanFault.TheVariants as faults;
 ghost use Rattle.plan_book.specs.Book.{AreLawful, text_of};
-ghost use Rattle.plan_book.specs.Asking.{OrMemory, Says};
+ghost use Rattle.plan_book.specs.Asking.{OrMemory, IsAnswered};
 ghost use Rattle.plan_book.specs.PlanFile as spec;
-ghost use Rattle.plan_book.specs.PlanFile.{IsEntry, IsNext, AreEntries, IsPlanFile};
+ghost use Rattle.plan_book.specs.PlanFile.{IsEntry, IsNextEntry, AreEntries, IsPlanFile};
 
 use crate::book::{Entry, PlanBook};
 use crate::fault::PlanFault;
@@ -37,10 +37,10 @@ struct Head<'a> {
 }
 
 fn read_head<'a>(alloc: Global, value: &'a Json, number: u64) -> Result<Head<'a>, PlanFault>
-    ensures head { IfOk result (λ h. Says (spec.head number value.now)
+    ensures head { IfOk result (λ h. IsAnswered (spec.head number value.now)
         (Ok (record { document = h.document; mutation = h.mutation; plan = h.plan.now }))) }
     ensures fault { IfErr result (λ f. f ≢ faults.Memory
-        → Says (spec.head number value.now) (Err f)) }
+        → IsAnswered (spec.head number value.now) (Err f)) }
 {
     let Some(document) = document(alloc, text_member(value, "operation"))? else {
         return Err(bad_member(alloc, number, "operation"));
@@ -108,10 +108,10 @@ fn read_entry(alloc: Global, value: &Json, number: u64) -> Result<Entry, PlanFau
 /// Adds the next entry, which has this number.
 fn add_entry(alloc: Global, value: &Json, number: u64, book: &mut PlanBook) -> Result<(), PlanFault>
     ensures entry { OnOk result
-        ((e : books.Entry) × IsNext number (map text_of book.old.entries.items) value.now (Ok e)
+        ((e : books.Entry) × IsNextEntry number (map text_of book.old.entries.items) value.now (Ok e)
         × (book.new.entries.items ≡ book.old.entries.items ++ e ∷ [])) }
     ensures fault { IfErr result (λ f. f ≢ faults.Memory
-        → IsNext number (map text_of book.old.entries.items) value.now (Err f)) }
+        → IsNextEntry number (map text_of book.old.entries.items) value.now (Err f)) }
 {
     let entry = read_entry(alloc, value, number)?;
     if book.add(entry)? {

@@ -9,7 +9,7 @@ use Rattle.plan_tree.specs.declared.plan.Node.{Node}
 use Rattle.plan_tree.specs.declared.plan.Fetch.{Fetch}
 use Rattle.plan_exec.specs.declared.tasks.Done.{Done}
 use Rattle.merge_paths.specs.Merge.{merge}
-use Rattle.plan_exec.specs.Exec.{exec, in_turn, side_by_side}
+use Rattle.plan_exec.specs.Exec.{exec, one_by_one, side_by_side}
 use Rattle.plan_exec.specs.Ready.{Waiting, or_else, ready}
 use Rattle.plan_exec.specs.Levels.{first_of, each_of}
 use Rattle.plan_exec.specs.Tasks.{task_of, asked_if}
@@ -78,9 +78,9 @@ module _ (fetches : List Fetch) (given : List Done) where
   here nodes i n short is = drop-cons nodes i n short ∙ ap (λ (m : Node). m ∷ drop (suc i) nodes) (sym is) ∙ ap (λ (k : ℕ). n ∷ drop k nodes) (sym (add-one i))
 
   pub turn_value : (nodes : List Node) (i : ℕ) (n : Node) (v made whole : Json) → i < length nodes → n ≡ get_or nodes i n → made ≡ exec fetches given n v →
-      in_turn (map (exec fetches given) (drop i nodes)) v ≡ whole → in_turn (map (exec fetches given) (drop (i + 1) nodes)) made ≡ whole
+      one_by_one (map (exec fetches given) (drop i nodes)) v ≡ whole → one_by_one (map (exec fetches given) (drop (i + 1) nodes)) made ≡ whole
   turn_value nodes i n v made whole short is made_is was =
-      ap (in_turn (map (exec fetches given) (drop (i + 1) nodes))) made_is ∙ sym (ap (λ (ns : List Node). in_turn (map (exec fetches given) ns) v) (here nodes i n short is)) ∙ was
+      ap (one_by_one (map (exec fetches given) (drop (i + 1) nodes))) made_is ∙ sym (ap (λ (ns : List Node). one_by_one (map (exec fetches given) ns) v) (here nodes i n short is)) ∙ was
 
   pub turn_step : (nodes : List Node) (i : ℕ) (n : Node) (v made : Json) (asking : Bool) (before : ℕ) (old now whole : List Task) → i < length nodes → n ≡ get_or nodes i n → made ≡ exec fetches given n v →
       now ≡ old ++ asked_if (asking && (length old == before)) (map (task_of fetches) (ready fetches given n v)) →

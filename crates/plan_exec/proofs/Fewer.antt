@@ -14,24 +14,24 @@ use Rattle.plan_exec.specs.declared.tasks.Done.{Done}
 use Rattle.plan_exec.specs.Exec.{pieces_of, reps_for, exec}
 use Rattle.plan_exec.specs.Ready.{Waiting, unless_given, if_any, or_else, ready}
 use Rattle.plan_exec.specs.Levels.{first_of, each_of}
-use Rattle.plan_exec.specs.Giving.{Among, sum, unless_done, left_step, left}
+use Rattle.plan_exec.specs.Giving.{Among, sum, unless_done, left_step, count_left}
 use Rattle.plan_exec.proofs.Equations.{ready-fetch, ready-flatten, ready-sequence, ready-parallel}
 use Rattle.plan_exec.proofs.Staying.{Among-append_cases, Extends}
 
-pub left-fetch : (given : List Done) (fetch : ℕ) → left given (node.Fetch fetch) ≡ unless_done (pieces_of given fetch)
-unfolding left
+pub left-fetch : (given : List Done) (fetch : ℕ) → count_left given (node.Fetch fetch) ≡ unless_done (pieces_of given fetch)
+unfolding count_left
 left-fetch given fetch = ap (fold-Node ℕ (left_step given)) (sym (node.rolls-Fetch fetch)) ∙ fold-roll-Node ℕ (left_step given) (Node-F.Fetch fetch)
 
-pub left-flatten : (given : List Done) (path : Path) (fetch : ℕ) → left given (node.Flatten path fetch) ≡ unless_done (pieces_of given fetch)
-unfolding left
+pub left-flatten : (given : List Done) (path : Path) (fetch : ℕ) → count_left given (node.Flatten path fetch) ≡ unless_done (pieces_of given fetch)
+unfolding count_left
 left-flatten given path fetch = ap (fold-Node ℕ (left_step given)) (sym (node.rolls-Flatten path fetch)) ∙ fold-roll-Node ℕ (left_step given) (Node-F.Flatten path fetch)
 
-pub left-sequence : (given : List Done) (nodes : List Node) → left given (node.Sequence nodes) ≡ sum (map (left given) nodes)
-unfolding left
+pub left-sequence : (given : List Done) (nodes : List Node) → count_left given (node.Sequence nodes) ≡ sum (map (count_left given) nodes)
+unfolding count_left
 left-sequence given nodes = ap (fold-Node ℕ (left_step given)) (sym (node.rolls-Sequence nodes)) ∙ fold-roll-Node ℕ (left_step given) (Node-F.Sequence nodes)
 
-pub left-parallel : (given : List Done) (nodes : List Node) → left given (node.Parallel nodes) ≡ sum (map (left given) nodes)
-unfolding left
+pub left-parallel : (given : List Done) (nodes : List Node) → count_left given (node.Parallel nodes) ≡ sum (map (count_left given) nodes)
+unfolding count_left
 left-parallel given nodes = ap (fold-Node ℕ (left_step given)) (sym (node.rolls-Parallel nodes)) ∙ fold-roll-Node ℕ (left_step given) (Node-F.Parallel nodes)
 
 one_ready : (one w : Waiting) (o : Option (List Json)) → Among w (unless_given o (one ∷ [])) → (one ≡ w) × (o ≡ None)
@@ -84,12 +84,12 @@ module _ (fetches : List Fetch) (given : List Done) where
   pub ready_lacks : (n : Node) (v : Json) (w : Waiting) → Among w (ready fetches given n v) → pieces_of given w.fetch ≡ None
   ready_lacks = ind-Node Lacks (λ x y is. subst (λ z. Lacks (roll-Node z)) is (lacks_at y))
 
--- ---- fewer are left
+-- ---- fewer are count_left
 
 module _ (fetches : List Fetch) (given more : List Done) (ext : Extends given more) where
   pub record Falls (n : Node) : Type 0 where
-    pub at_most : left more n ≤ left given n
-    pub below : (v : Json) (w : Waiting) (pieces : List Json) → Among w (ready fetches given n v) → pieces_of more w.fetch ≡ Some pieces → left more n < left given n
+    pub at_most : count_left more n ≤ count_left given n
+    pub below : (v : Json) (w : Waiting) (pieces : List Json) → Among w (ready fetches given n v) → pieces_of more w.fetch ≡ Some pieces → count_left more n < count_left given n
 
   leaf_at_most : (fetch : ℕ) → unless_done (pieces_of more fetch) ≤ unless_done (pieces_of given fetch)
   leaf_at_most fetch = by_given (pieces_of given fetch) refl
@@ -107,12 +107,12 @@ module _ (fetches : List Fetch) (given more : List Done) (ext : Extends given mo
       let here : pieces_of more fetch ≡ Some pieces = ap (pieces_of more) (sym its) ∙ ap (λ (u : Waiting). pieces_of more u.fetch) h.0 ∙ is in
       rw (here, h.1) (omega arith)
 
-  children_at_most : (ps : List ((n : Node) × Falls n)) → sum (map (left more) (map (λ e. e.0) ps)) ≤ sum (map (left given) (map (λ e. e.0) ps))
+  children_at_most : (ps : List ((n : Node) × Falls n)) → sum (map (count_left more) (map (λ e. e.0) ps)) ≤ sum (map (count_left given) (map (λ e. e.0) ps))
   children_at_most [] = omega arith
   children_at_most (p ∷ ps) = let here = p.1.at_most in let rest = children_at_most ps in omega arith
 
   turn_below : (ps : List ((n : Node) × Falls n)) (v : Json) (w : Waiting) (pieces : List Json) → Among w (first_of fetches given (map (λ e. e.0) ps) v) → pieces_of more w.fetch ≡ Some pieces →
-      sum (map (left more) (map (λ e. e.0) ps)) < sum (map (left given) (map (λ e. e.0) ps))
+      sum (map (count_left more) (map (λ e. e.0) ps)) < sum (map (count_left given) (map (λ e. e.0) ps))
   turn_below [] v w pieces among is = absurd among
   turn_below (p ∷ ps) v w pieces among is = elim (or_else_cases (ready fetches given p.0 v) (first_of fetches given (map (λ e. e.0) ps) (exec fetches given p.0 v)) w among) [
     | inl here ↦ (let a = p.1.below v w pieces here is in let b = children_at_most ps in omega arith)
@@ -120,7 +120,7 @@ module _ (fetches : List Fetch) (given more : List Done) (ext : Extends given mo
   ]
 
   each_below : (ps : List ((n : Node) × Falls n)) (v : Json) (w : Waiting) (pieces : List Json) → Among w (each_of fetches given (map (λ e. e.0) ps) v) → pieces_of more w.fetch ≡ Some pieces →
-      sum (map (left more) (map (λ e. e.0) ps)) < sum (map (left given) (map (λ e. e.0) ps))
+      sum (map (count_left more) (map (λ e. e.0) ps)) < sum (map (count_left given) (map (λ e. e.0) ps))
   each_below [] v w pieces among is = absurd among
   each_below (p ∷ ps) v w pieces among is = elim (Among-append_cases (ready fetches given p.0 v) (each_of fetches given (map (λ e. e.0) ps) v) w among) [
     | inl here ↦ (let a = p.1.below v w pieces here is in let b = children_at_most ps in omega arith)

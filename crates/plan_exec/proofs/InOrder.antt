@@ -11,7 +11,7 @@ use Rattle.plan_tree.specs.declared.plan.Node.TheViews.{roll-Node}
 use Rattle.plan_tree.specs.declared.plan.Node.TheFolds.{ind-Node}
 use Rattle.plan_tree.specs.declared.plan.Fetch.{Fetch}
 use Rattle.plan_tree.specs.declared.plan.Plan.{Plan}
-use Rattle.plan_tree.specs.Numbers.{joined, numbers, counted}
+use Rattle.plan_tree.specs.Numbers.{joined, numbers, numbers_from}
 use Rattle.plan_tree.specs.Lawful.{IsLawful}
 use Rattle.representations.specs.Gather.{Rep}
 use Rattle.plan_exec.specs.declared.tasks.Done.{Done}
@@ -20,7 +20,7 @@ use Rattle.plan_exec.specs.Ready.{Waiting, unless_given, if_any, or_else, ready}
 use Rattle.plan_exec.specs.Levels.{first_of, each_of}
 use Rattle.plan_exec.specs.Giving.{Among}
 use Rattle.plan_exec.specs.Order.{fetch_of}
-use Rattle.plan_exec.specs.Keeping.{IsPart, nothing, kept, passed, Differ}
+use Rattle.plan_exec.specs.Keeping.{IsPart, nothing, kept, passed, AllDiffer}
 use Rattle.plan_exec.proofs.Equations.{ready-fetch, ready-flatten, ready-sequence, ready-parallel}
 use Rattle.plan_exec.proofs.Keeping.{none_of, beside, part_left}
 use Rattle.plan_exec.proofs.Orders.{numbers-fetch, numbers-flatten, numbers-sequence, numbers-parallel}
@@ -84,21 +84,21 @@ among_part x _ _ (kept y part whole here) (inl e) = inl e
 among_part x _ _ (kept y part whole here) (inr later) = inr (among_part x part whole here later)
 among_part x _ _ (passed y part whole here) has = inr (among_part x part whole here has)
 
-part_differ : (part whole : List ℕ) → IsPart part whole → Differ whole → Differ part
+part_differ : (part whole : List ℕ) → IsPart part whole → AllDiffer whole → AllDiffer part
 part_differ _ _ nothing differ = tt
 part_differ _ _ (kept y part whole here) differ = (λ has. differ.0 (among_part y part whole here has), part_differ part whole here differ.1)
 part_differ _ _ (passed y part whole here) differ = part_differ part whole here differ.1
 
-counted_above : (n from x : ℕ) → Among x (counted n from) → from ≤ x
+counted_above : (n from x : ℕ) → Among x (numbers_from n from) → from ≤ x
 counted_above zero from x has = absurd has
 counted_above (suc n) from x (inl e) = omega arith
 counted_above (suc n) from x (inr later) = let above : suc from ≤ x = counted_above n (suc from) x later in omega arith
 
-counted_differ : (n from : ℕ) → Differ (counted n from)
+counted_differ : (n from : ℕ) → AllDiffer (numbers_from n from)
 counted_differ zero from = tt
 counted_differ (suc n) from = (λ has. (let above : suc from ≤ from = counted_above n (suc from) from has in omega arith), counted_differ n (suc from))
 
-pub asks_each_once : (plan : Plan) (given : List Done) (v : Json) → IsLawful plan → Differ (map fetch_of (ready plan.fetches given plan.root v))
+pub asks_each_once : (plan : Plan) (given : List Done) (v : Json) → IsLawful plan → AllDiffer (map fetch_of (ready plan.fetches given plan.root v))
 asks_each_once plan given v lawful =
-    let whole : Differ (numbers plan.root) = subst Differ (sym lawful.numbered) (counted_differ (length plan.fetches) 0) in
+    let whole : AllDiffer (numbers plan.root) = subst AllDiffer (sym lawful.numbered) (counted_differ (length plan.fetches) 0) in
     part_differ (map fetch_of (ready plan.fetches given plan.root v)) (numbers plan.root) (stands_in_order plan.fetches given plan.root v) whole

@@ -9,7 +9,7 @@ use Rattle.plan_exec.specs.Ready.{Waiting}
 use Rattle.plan_tree.specs.declared.plan.Fetch.{Fetch}
 use Rattle.plan_exec.specs.declared.tasks.Task.{Task}
 use Rattle.plan_exec.specs.Tasks.{Progress, waiting, empty, task_of}
-use Rattle.plan_exec.specs.Giving.{Among, Answers, CanTake, left}
+use Rattle.plan_exec.specs.Giving.{Among, AnswersTask, CanTake, count_left}
 use Rattle.plan_exec.proofs.Staying.{extends-append}
 use Rattle.plan_exec.proofs.Fewer.{falls, ready_lacks}
 
@@ -32,7 +32,7 @@ asked fetches [] task among = absurd among
 asked fetches (w ∷ ws) task (inl e) = record { one = w; is_ready = inl refl; is_its = ap (λ (t : Task). t.fetch) e }
 asked fetches (w ∷ ws) task (inr later) = let h = asked fetches ws task later in record { one = h.one; is_ready = inr h.is_ready; is_its = h.is_its }
 
-pub fewer : (plan : Plan) (given results : List Done) → CanTake (record { plan = plan; given = given }) results → left (given ++ results) plan.root < left given plan.root
+pub fewer : (plan : Plan) (given results : List Done) → CanTake (record { plan = plan; given = given }) results → count_left (given ++ results) plan.root < count_left given plan.root
 fewer plan given [] take = absurd (take.some refl)
 fewer plan given (done ∷ results) take =
     let answers = take.answers.0 in

@@ -22,6 +22,6 @@ pub data IsPart {X : Type 0} : List X → List X → Type 0 where
   passed : (x : X) (part whole : List X) → IsPart part whole → IsPart part (x ∷ whole)
 
 -- no number stands twice
-abbrev pub Differ : List ℕ → Type 0
-Differ [] = Unit {0}
-Differ (n ∷ ns) = (Among n ns → ⊥) × Differ ns
+abbrev pub AllDiffer : List ℕ → Type 0
+AllDiffer [] = Unit {0}
+AllDiffer (n ∷ ns) = (Among n ns → ⊥) × AllDiffer ns

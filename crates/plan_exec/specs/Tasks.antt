@@ -9,14 +9,14 @@ use Rattle.plan_exec.specs.declared.tasks.Done.{Done}
 use Rattle.plan_exec.specs.declared.tasks.Task.{Task}
 use Rattle.plan_exec.specs.declared.tasks.Asked.{Asked}
 use Rattle.plan_exec.specs.declared.tasks.Asked.TheVariants as asked
-use Rattle.representations.specs.Gather.{distinct, used_by}
+use Rattle.representations.specs.Gather.{distinct_texts, used_by}
 use Rattle.plan_exec.specs.Exec.{reps_for, exec}
 use Rattle.plan_exec.specs.Ready.{Waiting, ready}
 
--- a root fetch asks as it is; an entity fetch asks for the distinct representations at its path
+-- a root fetch asks as it is; an entity fetch asks for the distinct_texts representations at its path
 abbrev pub asked_of : List Fetch → ℕ → Json → Option Path → Asked
 asked_of fetches fetch v None = asked.Root
-asked_of fetches fetch v (Some path) = asked.Entities (distinct (reps_for fetches v path fetch)) (used_by (reps_for fetches v path fetch))
+asked_of fetches fetch v (Some path) = asked.Entities (distinct_texts (reps_for fetches v path fetch)) (used_by (reps_for fetches v path fetch))
 
 abbrev pub task_of : List Fetch → Waiting → Task
 task_of fetches waiting = record { fetch = waiting.fetch; asked = asked_of fetches waiting.fetch waiting.start waiting.path }

@@ -6,7 +6,7 @@ ghost use Rattle.plan_exec.specs.declared.tasks.Done.{Done};
 ghost use Rattle.plan_exec.specs.Exec.{pieces_of};
 ghost use Rattle.plan_exec.specs.Ready.{Waiting, ready};
 ghost use Rattle.plan_exec.specs.Giving.{Among, fetches_left};
-ghost use Rattle.plan_exec.specs.Keeping.{IsPart, Differ, still_open};
+ghost use Rattle.plan_exec.specs.Keeping.{IsPart, AllDiffer, still_open};
 ghost use Rattle.plan_exec.specs.Ended.{IsEnded};
 ghost use Rattle.plan_exec.specs.Tasks.{Progress};
 ghost use Rattle.plan_exec.specs.Order.{OneByOne, InRounds, GoesTo, fetch_of};
@@ -69,5 +69,5 @@ pub fn ready_fetches_stand_in_order(plan: &Plan, given: &[Done])
     ensures order { (v : Json) →
         IsPart (map fetch_of (ready plan.now.fetches given.now plan.now.root v)) (numbers plan.now.root) }
     ensures once { (v : Json) → IsLawful plan.now →
-        Differ (map fetch_of (ready plan.now.fetches given.now plan.now.root v)) }
+        AllDiffer (map fetch_of (ready plan.now.fetches given.now plan.now.root v)) }
 {}

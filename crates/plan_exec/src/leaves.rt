@@ -116,7 +116,7 @@ fn gather_for(
     fetch: u64,
 ) -> Result<Gathered, Memory>
     ensures distinct { IfOk result (λ g. g.distinct
-        ≡ rep.distinct (reps_for fetches.now value.now path.now fetch)) }
+        ≡ rep.distinct_texts (reps_for fetches.now value.now path.now fetch)) }
     ensures used_by { IfOk result
         (λ g. g.used_by ≡ rep.used_by (reps_for fetches.now value.now path.now fetch)) }
 {

@@ -1,5 +1,5 @@
 ghost use Rattle.std.specs.Prelude.{◌≡◌, ◌++◌, ◌==◌, ◌&&◌, IfOk, OnOk, map};
-ghost use Rattle.plan_exec.specs.Exec.{exec, in_turn, side_by_side};
+ghost use Rattle.plan_exec.specs.Exec.{exec, one_by_one, side_by_side};
 ghost use Rattle.plan_exec.specs.Ready.{ready};
 ghost use Rattle.plan_exec.specs.Levels.{first_of, each_of};
 ghost use Rattle.plan_exec.specs.Tasks.{task_of, asked_if};
@@ -65,7 +65,7 @@ fn run_in_turn(
     tasks: &mut Vec<Task>,
 ) -> Result<Json, Memory>
     ensures value { IfOk result (λ v. v
-        ≡ in_turn (map (exec fetches.now given.now) nodes.now) start) }
+        ≡ one_by_one (map (exec fetches.now given.now) nodes.now) start) }
     ensures tasks { OnOk result (tasks.new.items ≡ tasks.old.items
         ++ asked_if asking (map (task_of fetches.now) (first_of fetches.now given.now nodes.now start))) }
 {

@@ -8,7 +8,7 @@ use Rattle.json_paths.specs.declared.path.Place.{Place}
 use Rattle.cache_terms.specs.declared.keys.Key.{Key}
 use Rattle.plan_tree.specs.declared.plan.Plan.{Plan}
 use Rattle.plan_tree.specs.declared.plan.Fetch.{Fetch}
-use Rattle.plan_tree.specs.Numbers.{numbers, counted}
+use Rattle.plan_tree.specs.Numbers.{numbers, numbers_from}
 use Rattle.plan_tree.specs.Lawful.{IsLawful}
 use Rattle.plan_exec.specs.declared.tasks.Asked.{Asked}
 use Rattle.plan_exec.specs.declared.tasks.Asked.TheVariants as kind
@@ -16,7 +16,7 @@ use Rattle.plan_exec.specs.declared.tasks.Task as exec
 use Rattle.plan_exec.specs.declared.tasks.Done.{Done}
 use Rattle.plan_exec.specs.Ready.{Waiting}
 use Rattle.plan_exec.specs.Tasks.{Progress, waiting, empty, task_of}
-use Rattle.plan_exec.specs.Order.{with_more, fetch_of}
+use Rattle.plan_exec.specs.Order.{giving_more, fetch_of}
 use Rattle.plan_exec.specs.Giving.{Among, CanTake, count_asked, fetches_left}
 use Rattle.plan_exec.specs.Keeping.{IsPart, nothing, kept, passed}
 use Rattle.plan_exec.proofs.InOrder.{stands_in_order}
@@ -25,7 +25,7 @@ use Rattle.fetch_asks.specs.Asks.{ask_of, keys_of, key_of}
 use Rattle.plan_run.specs.declared.subgraphs.Subgraph.{Subgraph}
 use Rattle.plan_run.specs.Plans.{Wanted, IsOf}
 use Rattle.plan_run.specs.Subgraphs.{found_by, AreFrom}
-use Rattle.plan_run.specs.Fetches.{Execution, places_of, wanted_by, wanted_at, first_wanted, first_done, progress_from, progress_of, next_of, given_pieces, IsAt, IsSound}
+use Rattle.plan_run.specs.Fetches.{Execution, places_of, wanted_by, wanted_at, first_wanted, first_done, progress_from, progress_of, next_of, given_pieces, StandsAt, IsRunSound}
 
 -- ---- the progress
 
@@ -34,22 +34,22 @@ unfolding progress_from
 progress-none p = refl
 
 pub progress-append : (p : Progress) (given : List (List Json)) (pieces : List Json) →
-    progress_from p (given ++ (pieces ∷ [])) ≡ with_more (progress_from p given) (first_done (waiting (progress_from p given)) pieces)
+    progress_from p (given ++ (pieces ∷ [])) ≡ giving_more (progress_from p given) (first_done (waiting (progress_from p given)) pieces)
 unfolding progress_from
 progress-append p [] pieces = refl
-progress-append p (first ∷ given) pieces = progress-append (with_more p (first_done (waiting p) first)) given pieces
+progress-append p (first ∷ given) pieces = progress-append (giving_more p (first_done (waiting p) first)) given pieces
 
 pub progress-plan : (p : Progress) (given : List (List Json)) → (progress_from p given).plan ≡ p.plan
 unfolding progress_from
 progress-plan p [] = refl
-progress-plan p (first ∷ given) = progress-plan (with_more p (first_done (waiting p) first)) given
+progress-plan p (first ∷ given) = progress-plan (giving_more p (first_done (waiting p) first)) given
 
-pub at-plan : (plan : Plan) (q : Progress) → IsAt plan q → q.plan ≡ plan
+pub at-plan : (plan : Plan) (q : Progress) → StandsAt plan q → q.plan ≡ plan
 at-plan plan q at = ap (λ (p : Progress). p.plan) at ∙ progress-plan (record { plan = plan; given = [] }) (map given_pieces q.given)
 
 -- ---- what comes next
 
-pub next-is : (plan : Plan) (subgraphs : List Subgraph) (variables : Json) (q : Progress) (tasks : List exec.Task) → IsAt plan q →
+pub next-is : (plan : Plan) (subgraphs : List Subgraph) (variables : Json) (q : Progress) (tasks : List exec.Task) → StandsAt plan q →
     tasks ≡ map (task_of q.plan.fetches) (waiting q) → next_of plan subgraphs variables (map given_pieces q.given) ≡ first_wanted plan.fetches subgraphs variables tasks
 unfolding next_of
 next-is plan subgraphs variables q tasks at are =
@@ -92,7 +92,7 @@ wanted_same variables task f found ask keys places ask_is keys_are places_are =
     ap with_ask (sym ask_is) ∙ ap with_keys (sym keys_are) ∙ ap with_places (sym places_are)
 
 -- what comes next of a plan that is run
-pub next-run : (plan : Plan) (subgraphs : List Subgraph) (variables : Json) (q : Progress) (tasks : List exec.Task) (self : Execution) (o : Option Wanted) → IsSound plan subgraphs q →
+pub next-run : (plan : Plan) (subgraphs : List Subgraph) (variables : Json) (q : Progress) (tasks : List exec.Task) (self : Execution) (o : Option Wanted) → IsRunSound plan subgraphs q →
     record { plan = plan; subgraphs = subgraphs; variables = variables; given = map given_pieces q.given } ≡ self →
     tasks ≡ map (task_of q.plan.fetches) (waiting q) → first_wanted plan.fetches subgraphs variables tasks ≡ o →
     o ≡ next_of self.plan self.subgraphs self.variables self.given
@@ -131,7 +131,7 @@ is_first fetches subgraphs variables (w ∷ ws) fetch pieces is = by_fetch (slic
     by_fetch None h = absurd h
     by_fetch (Some f) h = by_subgraph f (found_by subgraphs f.sub) h
 
-pub next_first : (plan : Plan) (subgraphs : List Subgraph) (variables : Json) (q : Progress) (fetch : ℕ) (pieces : List Json) → IsAt plan q →
+pub next_first : (plan : Plan) (subgraphs : List Subgraph) (variables : Json) (q : Progress) (fetch : ℕ) (pieces : List Json) → StandsAt plan q →
     IsOf (next_of plan subgraphs variables (map given_pieces q.given)) fetch (length pieces) → IsFirst (waiting q) q.plan.fetches fetch pieces
 next_first plan subgraphs variables q fetch pieces at is =
     let next = next-is plan subgraphs variables q (map (task_of q.plan.fetches) (waiting q)) at refl in
@@ -166,12 +166,12 @@ pub given_more : (given : List Done) (fetch : ℕ) (pieces : List Json) → map 
 given_more given fetch pieces = map-append given_pieces given (record { fetch = fetch; pieces = pieces })
 
 -- the machine stays at what it makes of the pieces
-pub at_more : (plan : Plan) (q : Progress) (fetch : ℕ) (pieces : List Json) → IsAt plan q → IsFirst (waiting q) q.plan.fetches fetch pieces →
-    IsAt plan (with_more q (record { fetch = fetch; pieces = pieces } ∷ []))
+pub at_more : (plan : Plan) (q : Progress) (fetch : ℕ) (pieces : List Json) → StandsAt plan q → IsFirst (waiting q) q.plan.fetches fetch pieces →
+    StandsAt plan (giving_more q (record { fetch = fetch; pieces = pieces } ∷ []))
 at_more plan q fetch pieces at h =
     let start : Progress = record { plan = plan; given = [] } in
-    ap (λ (ds : List Done). with_more q ds) (sym (first-done q fetch pieces h))
-    ∙ ap (λ (p : Progress). with_more p (first_done (waiting p) pieces)) at
+    ap (λ (ds : List Done). giving_more q ds) (sym (first-done q fetch pieces h))
+    ∙ ap (λ (p : Progress). giving_more p (first_done (waiting p) pieces)) at
     ∙ sym (progress-append start (map given_pieces q.given) pieces)
     ∙ ap (progress_from start) (sym (given_more q.given fetch pieces))
 
@@ -195,15 +195,15 @@ first-done-wanted plan subgraphs variables (one ∷ ws) w pieces is =
     ap (λ (n : ℕ). record { fetch = n; pieces = pieces } ∷ []) (wanted-fetch plan.fetches subgraphs variables (task_of plan.fetches one) w is)
 
 pub next-done : (plan : Plan) (subgraphs : List Subgraph) (variables : Json) (given : List (List Json)) (w : Wanted) (pieces : List Json) →
-    next_of plan subgraphs variables given ≡ Some w → progress_of plan (given ++ (pieces ∷ [])) ≡ with_more (progress_of plan given) (record { fetch = w.fetch; pieces = pieces } ∷ [])
+    next_of plan subgraphs variables given ≡ Some w → progress_of plan (given ++ (pieces ∷ [])) ≡ giving_more (progress_of plan given) (record { fetch = w.fetch; pieces = pieces } ∷ [])
 unfolding next_of
 next-done plan subgraphs variables given w pieces is =
     progress-append (record { plan = plan; given = [] }) given pieces
-    ∙ ap (with_more (progress_of plan given)) (first-done-wanted plan subgraphs variables (waiting (progress_of plan given)) w pieces is)
+    ∙ ap (giving_more (progress_of plan given)) (first-done-wanted plan subgraphs variables (waiting (progress_of plan given)) w pieces is)
 
 -- ---- nothing comes next
 
-among_counted : (n from k : ℕ) → Among k (counted n from) → k < from + n
+among_counted : (n from k : ℕ) → Among k (numbers_from n from) → k < from + n
 among_counted zero from k h = absurd h
 among_counted (suc n) from k (inl e) = omega arith
 among_counted (suc n) from k (inr h) = let below : k < suc from + n = among_counted n (suc from) k h in omega arith
@@ -253,24 +253,24 @@ at_end plan subgraphs variables given lawful known none = by_ready (waiting (pro
 
 -- ---- a plan that is run
 
-pub at-start : (plan : Plan) (q : Progress) → q ≡ record { plan = plan; given = [] } → IsAt plan q
-at-start plan q is = subst (IsAt plan) (sym is) (sym (progress-none (record { plan = plan; given = [] })))
+pub at-start : (plan : Plan) (q : Progress) → q ≡ record { plan = plan; given = [] } → StandsAt plan q
+at-start plan q is = subst (StandsAt plan) (sym is) (sym (progress-none (record { plan = plan; given = [] })))
 
-pub finished : (plan : Plan) (subgraphs : List Subgraph) (variables : Json) (q : Progress) → IsSound plan subgraphs q →
+pub finished : (plan : Plan) (subgraphs : List Subgraph) (variables : Json) (q : Progress) → IsRunSound plan subgraphs q →
     next_of plan subgraphs variables (map given_pieces q.given) ≡ None → waiting q ≡ []
 finished plan subgraphs variables q s none = ap waiting s.at ∙ at_end plan subgraphs variables (map given_pieces q.given) s.lawful s.known none
 
-pub sound_more : (plan : Plan) (subgraphs : List Subgraph) (q : Progress) (fetch : ℕ) (pieces : List Json) → IsSound plan subgraphs q → IsFirst (waiting q) q.plan.fetches fetch pieces →
-    IsSound plan subgraphs (with_more q (record { fetch = fetch; pieces = pieces } ∷ []))
+pub sound_more : (plan : Plan) (subgraphs : List Subgraph) (q : Progress) (fetch : ℕ) (pieces : List Json) → IsRunSound plan subgraphs q → IsFirst (waiting q) q.plan.fetches fetch pieces →
+    IsRunSound plan subgraphs (giving_more q (record { fetch = fetch; pieces = pieces } ∷ []))
 sound_more plan subgraphs q fetch pieces s h = record { at = at_more plan q fetch pieces s.at h; lawful = s.lawful; known = s.known }
 
 -- after pieces were given, or memory ran out
-pub sound_after : {X Y : Type 0} (plan : Plan) (subgraphs : List Subgraph) (q new : Progress) (results : List Done) (r : Result X Y) → OnOk r (new ≡ with_more q results) → OnErr r (new ≡ q) →
-    IsSound plan subgraphs q → IsSound plan subgraphs (with_more q results) → IsSound plan subgraphs new
-sound_after plan subgraphs q new results (Ok x) ok err old more = subst (IsSound plan subgraphs) (sym ok) more
-sound_after plan subgraphs q new results (Err e) ok err old more = subst (IsSound plan subgraphs) (sym err) old
+pub sound_after : {X Y : Type 0} (plan : Plan) (subgraphs : List Subgraph) (q new : Progress) (results : List Done) (r : Result X Y) → OnOk r (new ≡ giving_more q results) → OnErr r (new ≡ q) →
+    IsRunSound plan subgraphs q → IsRunSound plan subgraphs (giving_more q results) → IsRunSound plan subgraphs new
+sound_after plan subgraphs q new results (Ok x) ok err old more = subst (IsRunSound plan subgraphs) (sym ok) more
+sound_after plan subgraphs q new results (Err e) ok err old more = subst (IsRunSound plan subgraphs) (sym err) old
 
-pub fewer_after : {X Y : Type 0} (plan : Plan) (q new : Progress) (left : ℕ) (r : Result X Y) → IsAt plan new → fetches_left q ≡ left → OnOk r (fetches_left new < fetches_left q) →
+pub fewer_after : {X Y : Type 0} (plan : Plan) (q new : Progress) (left : ℕ) (r : Result X Y) → StandsAt plan new → fetches_left q ≡ left → OnOk r (fetches_left new < fetches_left q) →
     OnOk r (fetches_left (progress_of plan (map given_pieces new.given)) < left)
 fewer_after plan q new left (Ok x) at is fewer =
     subst (λ (n : ℕ). n < left) (ap fetches_left at) (subst (λ (n : ℕ). fetches_left new < n) is fewer)

@@ -15,17 +15,17 @@ use Rattle.piece_fetch.proofs.FoundPieces.{fetch_found}
 use Rattle.plan_run.specs.declared.outcome.Outcome.{Outcome}
 use Rattle.plan_run.specs.Plans.{Wanted}
 use Rattle.plan_run.specs.Outcomes.{Done, turns_of}
-use Rattle.plan_run.specs.Requests.{Runs, DoesRequest}
+use Rattle.plan_run.specs.Requests.{AreRun, DoesRequest}
 use Rattle.plan_run.specs.Justified.{AllFound}
 
-pub runs_keep : (id : Option (List ℕ)) (line : ℕ) (pass : Pinned) (calls : ℕ) (tasks : List Wanted) (done : List Done) → Runs id line pass calls tasks done → KeepPin (turns_of done)
+pub runs_keep : (id : Option (List ℕ)) (line : ℕ) (pass : Pinned) (calls : ℕ) (tasks : List Wanted) (done : List Done) → AreRun id line pass calls tasks done → KeepPin (turns_of done)
 runs_keep id line pass calls [] [] h = tt
 runs_keep id line pass calls (t ∷ ts) (d ∷ ds) h = keep_append d.turns (turns_of ds) (fetch_keeps t.ask t.keys id line calls pass d.now d.turns d.entries d.fetched h.0) (runs_keep id line pass (calls_after calls d.entries) ts ds h.1)
 runs_keep id line pass calls [] (d ∷ ds) h = absurd h
 runs_keep id line pass calls (t ∷ ts) [] h = absurd h
 
 -- the hits of all fetches stand in the journal seen at the end
-pub runs_found : LooksFindWhatIsRecorded → RecordedHitsStay → (id : Option (List ℕ)) (line : ℕ) (pass : Pinned) (calls : ℕ) (c : Seen) (tasks : List Wanted) (done : List Done) → pass_of c ≡ pass → Runs id line pass calls tasks done → AreTurns c (turns_of done)
+pub runs_found : LooksFindWhatIsRecorded → RecordedHitsStay → (id : Option (List ℕ)) (line : ℕ) (pass : Pinned) (calls : ℕ) (c : Seen) (tasks : List Wanted) (done : List Done) → pass_of c ≡ pass → AreRun id line pass calls tasks done → AreTurns c (turns_of done)
     → AllFound (seen_after_all c (turns_of done)).journal pass id tasks done
 runs_found find stay id line pass calls c [] [] at h are = tt
 runs_found find stay id line pass calls c (t ∷ ts) (d ∷ ds) at h are =

@@ -9,19 +9,19 @@ use Rattle.flow_base.specs.Logs.{Grows}
 use Rattle.line_base.specs.Lines.{Line, Entry, Gains, calls_after}
 use Rattle.line_base.proofs.Gaining.{gains_none, gains_trans, grows_none, grows_trans}
 use Rattle.cache_seam.specs.Seen.{Seen, pass_of}
-use Rattle.cache_seam.specs.Turns.{Turn, Calls, Takes, pinned_after, begun_after}
+use Rattle.cache_seam.specs.Turns.{Turn, Calls, TakesTurns, pinned_after, begun_after}
 use Rattle.cache_seam.proofs.Hands.{step_of, number_of}
 use Rattle.cache_seam.proofs.Chains.{takes_none, takes_one, takes_append}
 use Rattle.piece_fetch.specs.declared.fetched.Fetched.{Fetched}
 use Rattle.piece_fetch.specs.declared.fetched.Lasts.{Lasts}
-use Rattle.piece_fetch.specs.Fetching.{Fetches, DoesFetch, DropsFetch, Drops, unbegun}
+use Rattle.piece_fetch.specs.Fetching.{FetchesPieces, DoesFetch, DropsFetch, Drops, unbegun}
 use Rattle.piece_fetch.proofs.Pins.{pin_kept, fetch_keeps}
 use Rattle.plan_run.specs.declared.outcome.Receipt.{Receipt}
 use Rattle.plan_run.specs.declared.outcome.PieceError.{PieceError}
 use Rattle.plan_run.specs.declared.outcome.Outcome.{Outcome}
 use Rattle.plan_run.specs.Plans.{Wanted}
 use Rattle.plan_run.specs.Outcomes.{Done, moments_of, turns_of, entries_of, pieces_of, receipts_of, receipts_from, lasts_of, errors_of, errors_by}
-use Rattle.plan_run.specs.Requests.{Runs, Begins, IsOrder, DoesRequest, DropsNext, DropsRequest}
+use Rattle.plan_run.specs.Requests.{AreRun, Begins, IsOrder, DoesRequest, DropsNext, DropsRequest}
 
 -- ONE FETCH MORE
 
@@ -41,18 +41,18 @@ calls_append : (n : ℕ) (es fs : List Entry) → calls_after n (es ++ fs) ≡ c
 calls_append n [] fs = refl
 calls_append n (e ∷ es) fs = calls_append (min (n + 1) (2 ^ 64 - 1)) es fs
 
-runs_more : (id : Option (List ℕ)) (line : ℕ) (pass : Pinned) (calls : ℕ) (ts : List Wanted) (ds : List Done) (t : Wanted) (x : Done) → Runs id line pass calls ts ds
-    → Fetches t.ask t.keys id line (calls_after calls (entries_of ds)) pass x.now x.turns x.entries x.fetched → Runs id line pass calls (ts ++ t ∷ []) (ds ++ x ∷ [])
+runs_more : (id : Option (List ℕ)) (line : ℕ) (pass : Pinned) (calls : ℕ) (ts : List Wanted) (ds : List Done) (t : Wanted) (x : Done) → AreRun id line pass calls ts ds
+    → FetchesPieces t.ask t.keys id line (calls_after calls (entries_of ds)) pass x.now x.turns x.entries x.fetched → AreRun id line pass calls (ts ++ t ∷ []) (ds ++ x ∷ [])
 runs_more id line pass calls [] [] t x h one = (one, tt)
 runs_more id line pass calls (s ∷ ts) (d ∷ ds) t x h one = (
   h.0,
   runs_more id line pass (calls_after calls d.entries) ts ds t x h.1
-      (subst (λ (n : ℕ). Fetches t.ask t.keys id line n pass x.now x.turns x.entries x.fetched) (calls_append calls d.entries (entries_of ds)) one),
+      (subst (λ (n : ℕ). FetchesPieces t.ask t.keys id line n pass x.now x.turns x.entries x.fetched) (calls_append calls d.entries (entries_of ds)) one),
 )
 runs_more id line pass calls [] (d ∷ ds) t x h one = absurd h
 runs_more id line pass calls (s ∷ ts) [] t x h one = absurd h
 
-receipts_more : (id : Option (List ℕ)) (line : ℕ) (pass : Pinned) (calls : ℕ) (ts : List Wanted) (ds : List Done) (t : Wanted) (x : Done) → Runs id line pass calls ts ds
+receipts_more : (id : Option (List ℕ)) (line : ℕ) (pass : Pinned) (calls : ℕ) (ts : List Wanted) (ds : List Done) (t : Wanted) (x : Done) → AreRun id line pass calls ts ds
     → receipts_of (ts ++ t ∷ []) (ds ++ x ∷ []) ≡ receipts_of ts ds ++ receipts_from t.fetch 0 x.fetched.origins.items
 receipts_more id line pass calls [] [] t x h = append-nil (receipts_from t.fetch 0 x.fetched.origins.items)
 receipts_more id line pass calls (s ∷ ts) (d ∷ ds) t x h =
@@ -61,7 +61,7 @@ receipts_more id line pass calls (s ∷ ts) (d ∷ ds) t x h =
 receipts_more id line pass calls [] (d ∷ ds) t x h = absurd h
 receipts_more id line pass calls (s ∷ ts) [] t x h = absurd h
 
-errors_more : (id : Option (List ℕ)) (line : ℕ) (pass : Pinned) (calls : ℕ) (ts : List Wanted) (ds : List Done) (t : Wanted) (x : Done) → Runs id line pass calls ts ds
+errors_more : (id : Option (List ℕ)) (line : ℕ) (pass : Pinned) (calls : ℕ) (ts : List Wanted) (ds : List Done) (t : Wanted) (x : Done) → AreRun id line pass calls ts ds
     → errors_of (ts ++ t ∷ []) (ds ++ x ∷ []) ≡ errors_of ts ds ++ errors_by t x.fetched
 errors_more id line pass calls [] [] t x h = append-nil (errors_by t x.fetched)
 errors_more id line pass calls (s ∷ ts) (d ∷ ds) t x h =
@@ -94,8 +94,8 @@ pub record SoFar (next : List (List Json) → Option Wanted) (given now : List (
   pub done : List Done
   pub order : IsOrder next given tasks done
   pub given_is : now ≡ given ++ pieces_of done
-  pub runs : Runs id line pass l.calls tasks done
-  pub takes : Takes c (begin ∷ turns_of done) d
+  pub runs : AreRun id line pass l.calls tasks done
+  pub takes : TakesTurns c (begin ∷ turns_of done) d
   pub gains : Gains l (entries_of done) m
   pub ticks : Grows before after (moments_of done)
   pub receipts_are : receipts ≡ receipts_of tasks done
@@ -139,8 +139,8 @@ pub done_more : (next : List (List Json) → Option Wanted) (given now : List (L
     → SoFar next given (now ++ f.pieces.items ∷ []) id line c e l n before after (receipts ++ receipts_from t.fetch 0 f.origins.items) (lasts ++ f.lasts.items) (errors ++ errors_by t f)
 done_more next given now t id line c d e l m n before mid after receipts lasts errors f s is h =
     let x : Done = record { now = h.now; turns = h.turns; entries = h.entries; fetched = f } in
-    let at_pass : Fetches t.ask t.keys id line m.calls s.pass h.now h.turns h.entries f = subst (λ (p : Pinned). Fetches t.ask t.keys id line m.calls p h.now h.turns h.entries f) s.here h.fetches in
-    let one : Fetches t.ask t.keys id line (calls_after l.calls (entries_of s.done)) s.pass h.now h.turns h.entries f = subst (λ (k : ℕ). Fetches t.ask t.keys id line k s.pass h.now h.turns h.entries f) s.gains.calls at_pass in
+    let at_pass : FetchesPieces t.ask t.keys id line m.calls s.pass h.now h.turns h.entries f = subst (λ (p : Pinned). FetchesPieces t.ask t.keys id line m.calls p h.now h.turns h.entries f) s.here h.fetches in
+    let one : FetchesPieces t.ask t.keys id line (calls_after l.calls (entries_of s.done)) s.pass h.now h.turns h.entries f = subst (λ (k : ℕ). FetchesPieces t.ask t.keys id line k s.pass h.now h.turns h.entries f) s.gains.calls at_pass in
     let pin = pin_kept d h.turns (fetch_keeps t.ask t.keys id line m.calls (pass_of d) h.now h.turns h.entries f h.fetches) in
     record {
       pass = s.pass;
@@ -151,7 +151,7 @@ done_more next given now t id line c d e l m n before mid after receipts lasts e
       order = order_more next given s.tasks s.done t x s.order (ap next (sym s.given_is) ∙ is);
       given_is = ap (λ (g : List (List Json)). g ++ f.pieces.items ∷ []) s.given_is ∙ append_assoc given (pieces_of s.done) (f.pieces.items ∷ []) ∙ ap (λ (l : List (List Json)). given ++ l) (sym (pieces_more s.done x));
       runs = runs_more id line s.pass l.calls s.tasks s.done t x s.runs one;
-      takes = subst (λ (ts : List Turn). Takes c (s.begin ∷ ts) e) (sym (turns_more s.done x)) (takes_append c d e (s.begin ∷ turns_of s.done) h.turns s.takes h.takes);
+      takes = subst (λ (ts : List Turn). TakesTurns c (s.begin ∷ ts) e) (sym (turns_more s.done x)) (takes_append c d e (s.begin ∷ turns_of s.done) h.turns s.takes h.takes);
       gains = subst (λ (es : List Entry). Gains l es n) (sym (entries_more s.done x)) (gains_trans l m n (entries_of s.done) h.entries s.gains h.gains);
       ticks = subst (λ (ms : List ℕ). Grows before after ms) (sym (moments_more s.done x)) (grows_trans before mid after (moments_of s.done) (h.now ∷ []) s.ticks h.ticks);
       receipts_are = ap (λ (rs : List Receipt). rs ++ receipts_from t.fetch 0 f.origins.items) s.receipts_are ∙ sym (receipts_more id line s.pass l.calls s.tasks s.done t x s.runs);

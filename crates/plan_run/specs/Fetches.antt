@@ -11,7 +11,7 @@ use Rattle.plan_exec.specs.declared.tasks.Task as exec
 use Rattle.plan_exec.specs.declared.tasks.Done.{Done}
 use Rattle.plan_exec.specs.Ready.{Waiting}
 use Rattle.plan_exec.specs.Tasks.{Progress, waiting, task_of}
-use Rattle.plan_exec.specs.Order.{with_more}
+use Rattle.plan_exec.specs.Order.{giving_more}
 use Rattle.fetch_asks.specs.Asks.{ask_of, keys_of}
 use Rattle.plan_run.specs.declared.subgraphs.Subgraph.{Subgraph}
 use Rattle.plan_run.specs.Plans.{Wanted}
@@ -55,7 +55,7 @@ first_done (w ∷ ws) pieces = record { fetch = w.fetch; pieces = pieces } ∷ [
 -- the progress when these pieces were given, each time for the first fetch that was ready
 unfoldable pub progress_from : Progress → List (List Json) → Progress
 progress_from p [] = p
-progress_from p (pieces ∷ later) = progress_from (with_more p (first_done (waiting p) pieces)) later
+progress_from p (pieces ∷ later) = progress_from (giving_more p (first_done (waiting p) pieces)) later
 
 abbrev pub progress_of : Plan → List (List Json) → Progress
 progress_of plan given = progress_from (record { plan = plan; given = [] }) given
@@ -69,11 +69,11 @@ abbrev pub given_pieces : Done → List Json
 given_pieces done = done.pieces
 
 -- what a machine was given is what it makes of the pieces
-abbrev pub IsAt : Plan → Progress → Type 0
-IsAt plan p = p ≡ progress_of plan (map given_pieces p.given)
+abbrev pub StandsAt : Plan → Progress → Type 0
+StandsAt plan p = p ≡ progress_of plan (map given_pieces p.given)
 
 -- what is kept of a plan that is run
-pub record IsSound (plan : Plan) (subgraphs : List Subgraph) (machine : Progress) : Type 0 where
-  pub at : IsAt plan machine
+pub record IsRunSound (plan : Plan) (subgraphs : List Subgraph) (machine : Progress) : Type 0 where
+  pub at : StandsAt plan machine
   pub lawful : IsLawful plan
   pub known : AreFrom subgraphs plan.fetches

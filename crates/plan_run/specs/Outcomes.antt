@@ -50,14 +50,14 @@ abbrev pub lasts_of : List Done → List (Option Lasts)
 lasts_of [] = []
 lasts_of (d ∷ ds) = d.fetched.lasts.items ++ lasts_of ds
 
-abbrev pub first_place : Option (List Place) → Option Place
-first_place None = None
-first_place (Some places) = slice_get places 0
+abbrev pub first_of_places : Option (List Place) → Option Place
+first_of_places None = None
+first_of_places (Some places) = slice_get places 0
 
 -- the first place of the first piece that was asked for
 abbrev pub path_of : List (List Place) → Option ℕ → Option Place
 path_of places None = None
-path_of places (Some index) = first_place (slice_get places index)
+path_of places (Some index) = first_of_places (slice_get places index)
 
 -- the errors of one fetch, and of all
 abbrev pub errors_from : (fetch sub : ℕ) → Option Place → List Cause → List PieceError

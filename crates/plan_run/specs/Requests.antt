@@ -6,18 +6,18 @@ use Rattle.cache_book.specs.Calls.{Begin, Begun}
 use Rattle.flow_base.specs.Logs.{Grows}
 use Rattle.line_base.specs.Lines.{Line, Entry, Gains, calls_after}
 use Rattle.cache_seam.specs.Seen.{Seen}
-use Rattle.cache_seam.specs.Turns.{Turn, Takes}
-use Rattle.piece_fetch.specs.Fetching.{Fetches, Drops}
+use Rattle.cache_seam.specs.Turns.{Turn, TakesTurns}
+use Rattle.piece_fetch.specs.Fetching.{FetchesPieces, Drops}
 use Rattle.plan_run.specs.declared.outcome.Outcome.{Outcome}
 use Rattle.plan_run.specs.Plans.{Wanted}
 use Rattle.plan_run.specs.Outcomes.{Done, moments_of, turns_of, entries_of, pieces_of, receipts_of, lasts_of, errors_of}
 
 -- the fetches were done under this pass, one after another; calls is the number of calls before them
-abbrev pub Runs : Option (List ℕ) → (line : ℕ) → Pinned → (calls : ℕ) → List Wanted → List Done → Type 0
-Runs id line pass calls [] [] = Unit {0}
-Runs id line pass calls (w ∷ ws) (d ∷ ds) = Fetches w.ask w.keys id line calls pass d.now d.turns d.entries d.fetched × Runs id line pass (calls_after calls d.entries) ws ds
-Runs id line pass calls [] (d ∷ ds) = ⊥
-Runs id line pass calls (w ∷ ws) [] = ⊥
+abbrev pub AreRun : Option (List ℕ) → (line : ℕ) → Pinned → (calls : ℕ) → List Wanted → List Done → Type 0
+AreRun id line pass calls [] [] = Unit {0}
+AreRun id line pass calls (w ∷ ws) (d ∷ ds) = FetchesPieces w.ask w.keys id line calls pass d.now d.turns d.entries d.fetched × AreRun id line pass (calls_after calls d.entries) ws ds
+AreRun id line pass calls [] (d ∷ ds) = ⊥
+AreRun id line pass calls (w ∷ ws) [] = ⊥
 
 -- the pass of the request, which a begin gave
 pub record Begins (c : Seen) (pass : Pinned) (t : Turn) : Type 0 where
@@ -42,8 +42,8 @@ pub record DoesRequest (next : List (List Json) → Option Wanted) (given now : 
   pub order : IsOrder next given tasks done
   pub given_is : now ≡ given ++ pieces_of done
   pub ended : next now ≡ None
-  pub runs : Runs id line pass l.calls tasks done
-  pub takes : Takes c (begin ∷ turns_of done) d
+  pub runs : AreRun id line pass l.calls tasks done
+  pub takes : TakesTurns c (begin ∷ turns_of done) d
   pub gains : Gains l (entries_of done) m
   pub ticks : Grows before after (moments_of done)
   pub receipts : o.receipts.items ≡ receipts_of tasks done
@@ -63,11 +63,11 @@ pub record DropsRequest (next : List (List Json) → Option Wanted) (given : Lis
   pub tasks : List Wanted
   pub done : List Done
   pub order : IsOrder next given tasks done
-  pub runs : Runs id line pass l.calls tasks done
+  pub runs : AreRun id line pass l.calls tasks done
   pub moments : List ℕ
   pub turns : List Turn
   pub entries : List Entry
   pub drops : DropsNext id pass (next (given ++ pieces_of done)) moments turns entries
-  pub takes : Takes c ((begin ∷ turns_of done) ++ turns) d
+  pub takes : TakesTurns c ((begin ∷ turns_of done) ++ turns) d
   pub gains : Gains l (entries_of done ++ entries) m
   pub ticks : Grows before after (moments_of done ++ moments)

@@ -29,7 +29,7 @@ impl<'a> Model for PlanFetches<'a> {
     ghost use Rattle.plan_tree.specs.contracts.plan.Node as node_row;
     ghost use Rattle.json_paths.specs.contracts.needs.Need as need_row;
     ghost use Rattle.json_value.specs.contracts.tree.Json as json_row;
-    ghost use Rattle.plan_run.specs.Fetches.{Execution, IsSound, given_pieces};
+    ghost use Rattle.plan_run.specs.Fetches.{Execution, IsRunSound, given_pieces};
 
     ghost Value = { Execution };
 
@@ -44,7 +44,7 @@ impl<'a> Model for PlanFetches<'a> {
           given_pieces f.machine.given;
     } };
 
-    ghost invariant = { λ f. IsSound f.plan.now f.subgraphs.now f.machine };
+    ghost invariant = { λ f. IsRunSound f.plan.now f.subgraphs.now f.machine };
 }
 
 impl<'a> PlanFetches<'a> {

@@ -11,7 +11,7 @@ use Rattle.plan_tree.specs.declared.plan.Node.TheOpen.{Node-F}
 use Rattle.plan_tree.specs.declared.plan.Node.TheFolds.{fold-Node}
 use Rattle.plan_tree.specs.declared.plan.Fetch.{Fetch}
 use Rattle.plan_tree.specs.declared.plan.Plan.{Plan}
-use Rattle.plan_tree.specs.Numbers.{numbers, counted}
+use Rattle.plan_tree.specs.Numbers.{numbers, numbers_from}
 
 abbrev pub deepest : List ℕ → ℕ
 deepest [] = 0
@@ -56,8 +56,8 @@ fits_step fetches (Node-F.Sequence children) = is_some_of children && all_true c
 fits_step fetches (Node-F.Parallel children) = is_some_of children && all_true children
 
 -- each fetch stands where its kind may stand, a path has a step, and a Sequence or Parallel has a child
-unfoldable pub fits : List Fetch → Node → Bool
-fits fetches node = fold-Node Bool (fits_step fetches) node
+unfoldable pub is_well_placed : List Fetch → Node → Bool
+is_well_placed fetches node = fold-Node Bool (fits_step fetches) node
 
 abbrev pub differ : List (List ℕ) → Bool
 differ [] = true
@@ -93,8 +93,8 @@ fetch_formed fetch = needs_formed fetch.needs && differ fetch.variables && not (
 
 pub record IsLawful (plan : Plan) : Type 0 where
   -- fetches are numbered in the order in which the plan's text has them
-  pub numbered : numbers plan.root ≡ counted (length plan.fetches) 0
+  pub numbered : numbers plan.root ≡ numbers_from (length plan.fetches) 0
   pub few : length plan.fetches ≤ 64
   pub flat : depth plan.root ≤ 16
-  pub fit : IsTrue (fits plan.fetches plan.root)
+  pub fit : IsTrue (is_well_placed plan.fetches plan.root)
   pub well_formed : IsTrue (all_true (map fetch_formed plan.fetches))

@@ -19,6 +19,6 @@ unfoldable pub numbers : Node → List ℕ
 numbers = fold-Node (List ℕ) numbers_step
 
 -- so many numbers, from one on upward
-abbrev pub counted : ℕ → ℕ → List ℕ
-counted zero from = []
-counted (suc n) from = from ∷ counted n (suc from)
+abbrev pub numbers_from : ℕ → ℕ → List ℕ
+numbers_from zero from = []
+numbers_from (suc n) from = from ∷ numbers_from n (suc from)

@@ -29,7 +29,7 @@ use Rattle.reply_read.specs.Errors.{error_texts}
 use Rattle.reply_read.specs.Values.{count_of, data_of, data_in, entities_of, entities_in, values_of}
 use Rattle.reply_read.specs.TagTexts.{common_texts, is_formed, malformed, all_or_malformed, piece_tags, own_in, tags_with, tags_beside, reply_tags}
 use Rattle.reply_read.specs.Pieces.{ArePieces}
-use Rattle.reply_read.specs.Replies.{Held, held, is_some_list, with_values, with_data, with_errors, read_of, Reads}
+use Rattle.reply_read.specs.Replies.{GatheredPieces, held, is_some_list, with_values, with_data, with_errors, read_of, ReadsReply}
 
 same_ok : {A E : Type 0} (x y : A) → ◌≡◌ {A = Result A E} (Ok x) (Ok y) → x ≡ y
 same_ok x y h = same_Some x y (ap result_ok h)
@@ -171,23 +171,23 @@ tags_length s (Some e) = by_test (is_object e)
 
 -- THE REPLY
 
-held_values : (s : Sent) (ts : List Tags) (errors : List (List ℕ)) (r : Result (List Json) ReplyFault) (h : Held) → length ts ≡ count_of s → ((values : List Json) → r ≡ Ok values → AreValues s values) → with_values ts errors r ≡ Ok h → ArePieces s h.values h.tags
+held_values : (s : Sent) (ts : List Tags) (errors : List (List ℕ)) (r : Result (List Json) ReplyFault) (h : GatheredPieces) → length ts ≡ count_of s → ((values : List Json) → r ≡ Ok values → AreValues s values) → with_values ts errors r ≡ Ok h → ArePieces s h.values h.tags
 held_values s ts errors (Err f) h many are is = absurd (cc is)
 held_values s ts errors (Ok values) h many are is =
     let got = are values refl in
-    subst (λ (x : Held). ArePieces s x.values x.tags) (same_ok (record { values = values; tags = ts; errors = errors }) h is) (record { values_count = got.count; tags_count = many; kinds = got.kinds; texts = got.texts })
+    subst (λ (x : GatheredPieces). ArePieces s x.values x.tags) (same_ok (record { values = values; tags = ts; errors = errors }) h is) (record { values_count = got.count; tags_count = many; kinds = got.kinds; texts = got.texts })
 
-held_data : (s : Sent) (ts : List Tags) (errors : List (List ℕ)) (found : Option (Option Json)) (h : Held) → length ts ≡ count_of s → ((w : Json) → found ≡ Some (Some w) → HasText strict w × (is_piece w ≡ true)) → with_data s ts errors found ≡ Ok h → ArePieces s h.values h.tags
+held_data : (s : Sent) (ts : List Tags) (errors : List (List ℕ)) (found : Option (Option Json)) (h : GatheredPieces) → length ts ≡ count_of s → ((w : Json) → found ≡ Some (Some w) → HasText strict w × (is_piece w ≡ true)) → with_data s ts errors found ≡ Ok h → ArePieces s h.values h.tags
 held_data s ts errors None h many has is = absurd (cc is)
 held_data s ts errors (Some found) h many has is = held_values s ts errors (values_of s found) h many (λ values got. values_are s found values (λ w there. has w (ap (λ (x : Option Json). Some x) there)) got) is
 
-held_errors : (v : Json) (s : Sent) (errors : Option (List (List ℕ))) (h : Held) → HasText strict v → with_errors v s errors ≡ Ok h → ArePieces s h.values h.tags
+held_errors : (v : Json) (s : Sent) (errors : Option (List (List ℕ))) (h : GatheredPieces) → HasText strict v → with_errors v s errors ≡ Ok h → ArePieces s h.values h.tags
 held_errors v s None h has is = absurd (cc is)
 held_errors v s (Some errors) h has is =
     held_data s (reply_tags s (member v (codes "extensions"))) errors (data_of (is_some_list errors) (member v (codes "data"))) h (tags_length s (member v (codes "extensions")))
     (λ w there. data_has (is_some_list errors) (member v (codes "data")) w (λ u found. member_has v (codes "data") u has found) there) is
 
-pub held_pieces : (v : Json) (s : Sent) (h : Held) → HasText strict v → read_of v s ≡ Ok h → ArePieces s h.values h.tags
+pub held_pieces : (v : Json) (s : Sent) (h : GatheredPieces) → HasText strict v → read_of v s ≡ Ok h → ArePieces s h.values h.tags
 held_pieces v s h has is = by_test (is_object v) is
   where
     by_test : (b : Bool) → (if b then with_errors v s (error_texts (member v (codes "errors"))) else Err (fault.Shape [])) ≡ Ok h → ArePieces s h.values h.tags
@@ -195,6 +195,6 @@ held_pieces v s h has is = by_test (is_object v) is
     by_test false got = absurd (cc got)
 
 -- what is read are pieces
-pub pieces_read : (body : List ℕ) (s : Sent) (result : Result Pieces ReplyFault) → Reads body s result → IfOk result (λ p. ArePieces s p.values.items p.tags.items)
+pub pieces_read : (body : List ℕ) (s : Sent) (result : Result Pieces ReplyFault) → ReadsReply body s result → IfOk result (λ p. ArePieces s p.values.items p.tags.items)
 pieces_read body s (Ok p) (v, text, is) = held_pieces v s (held p) (body, text) is
 pieces_read body s (Err f) h = tt

@@ -3,7 +3,7 @@ ghost use Rattle.reply_read.specs.declared.replies.ReplyFault.TheVariants as fau
 ghost use Rattle.reply_read.specs.Pieces.{ArePieces};
 ghost use Rattle.reply_read.specs.Values.{values_of};
 ghost use Rattle.reply_read.specs.Replies as spec;
-ghost use Rattle.reply_read.specs.Replies.{read_of, Gives, Reads, place_in};
+ghost use Rattle.reply_read.specs.Replies.{read_of, Gives, ReadsReply, place_in};
 
 use crate::errors::error_texts;
 use crate::kinds::is_object;
@@ -112,7 +112,7 @@ fn pieces_of(alloc: Global, value: Json, sent: &Sent) -> Result<Pieces, ReplyFau
 }
 
 fn read_body(alloc: Global, body: &[u8], sent: &Sent) -> Result<Pieces, ReplyFault>
-    ensures { Reads body.now sent.now result }
+    ensures { ReadsReply body.now sent.now result }
 {
     match read(alloc, body) {
         Ok(value) => pieces_of(alloc, value, sent),
@@ -120,7 +120,7 @@ fn read_body(alloc: Global, body: &[u8], sent: &Sent) -> Result<Pieces, ReplyFau
     }
 }
 
-/// Reads a subgraph's reply. Its status has to be 200 and its body JSON; then `errors`, `data` and the entities are
+/// ReadsReply a subgraph's reply. Its status has to be 200 and its body JSON; then `errors`, `data` and the entities are
 /// looked at, and the first fault is answered. The tags come from `extensions.cacheTags` and
 /// `extensions.entityCacheTags`. It takes time in the length of the body, and moves the pieces out of the value read.
 #[tactic(auto, using(crate::proofs::PieceTexts::pieces_read))]
@@ -129,7 +129,7 @@ pub fn read_reply(alloc: Global, reply: &Reply, sent: &Sent) -> Result<Pieces, R
     ensures status { reply.now.status ≢ 200 → result ≡ Err (fault.Status reply.now.status) }
 
     // With status 200 the body decides.
-    ensures body { reply.now.status ≡ 200 → Reads reply.now.body sent.now result }
+    ensures body { reply.now.status ≡ 200 → ReadsReply reply.now.body sent.now result }
 
     // There is a piece for each that was asked for, an object or null, for which some text stands.
     ensures pieces { IfOk result (λ p. ArePieces sent.now p.values.items p.tags.items) }

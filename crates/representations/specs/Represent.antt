@@ -65,12 +65,12 @@ abbrev pub is_text : List ℕ → Option (Json-F Json) → Bool
 is_text name (Some (Json-F.Str text)) = bytes_eq text name
 is_text name _ = false
 
-abbrev pub opened : Option Json → Option (Json-F Json)
-opened None = None
-opened (Some v) = Some (out-Json v)
+abbrev pub opened_value : Option Json → Option (Json-F Json)
+opened_value None = None
+opened_value (Some v) = Some (out-Json v)
 
 abbrev pub has_type : Json → List ℕ → Bool
-has_type v name = is_text name (opened (member v (codes "__typename")))
+has_type v name = is_text name (opened_value (member v (codes "__typename")))
 
 abbrev pub typed : List ℕ → Option (List (List ℕ × Json)) → Option Json
 typed name None = None

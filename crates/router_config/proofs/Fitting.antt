@@ -10,7 +10,7 @@ use Rattle.router_config.specs.declared.config.SubRule.{SubRule}
 use Rattle.router_config.specs.Inputs.{is_input}
 use Rattle.router_config.specs.Rules.{names, is_ruled}
 use Rattle.router_config.specs.Faults.{unruled, not_inputs, subs_of, types_of, unknown_subgraph, unknown_type, entry_faults, faults_from}
-use Rattle.router_config.specs.Lawful.{EntryFits, Fits}
+use Rattle.router_config.specs.Lawful.{EntryFits, EntriesFit}
 use Rattle.router_config.proofs.Entries.{front_is_nil, rest_is_nil}
 
 pub either : (b : Bool) → (b ≡ true) ⊎ (b ≡ false)
@@ -54,7 +54,7 @@ entry_fits rules schema n entry e =
       types = all_pass (is_input schema) (types_of entry) (map-nil (unknown_type n) (not_inputs schema (types_of entry)) rest);
     }
 
-pub all_fit : (rules : List SubRule) (schema : List TypeDef) (n : ℕ) (entries : List Entry) → faults_from rules schema n entries ≡ [] → Fits rules schema entries
+pub all_fit : (rules : List SubRule) (schema : List TypeDef) (n : ℕ) (entries : List Entry) → faults_from rules schema n entries ≡ [] → EntriesFit rules schema entries
 all_fit rules schema n [] e = All-nil (EntryFits rules schema)
 all_fit rules schema n (entry ∷ entries) e =
     All-cons (EntryFits rules schema) entry entries

@@ -58,13 +58,13 @@ first [] = None
 first (x ∷ xs) = Some x
 
 -- it is the first of these, or want of memory
-abbrev pub IsFirst : List SiteFault → SiteFault → Type 0
-IsFirst faults fault.Memory = Unit {0}
-IsFirst faults (fault.UnknownSubgraph n name) = first faults ≡ Some (fault.UnknownSubgraph n name)
-IsFirst faults (fault.UnknownType n name) = first faults ≡ Some (fault.UnknownType n name)
+abbrev pub IsFirstFault : List SiteFault → SiteFault → Type 0
+IsFirstFault faults fault.Memory = Unit {0}
+IsFirstFault faults (fault.UnknownSubgraph n name) = first faults ≡ Some (fault.UnknownSubgraph n name)
+IsFirstFault faults (fault.UnknownType n name) = first faults ≡ Some (fault.UnknownType n name)
 
 -- it is this one, or want of memory
-abbrev pub IsOrMemory : SiteFault → SiteFault → Type 0
-IsOrMemory f fault.Memory = Unit {0}
-IsOrMemory f (fault.UnknownSubgraph n name) = f ≡ fault.UnknownSubgraph n name
-IsOrMemory f (fault.UnknownType n name) = f ≡ fault.UnknownType n name
+abbrev pub IsFaultOrMemory : SiteFault → SiteFault → Type 0
+IsFaultOrMemory f fault.Memory = Unit {0}
+IsFaultOrMemory f (fault.UnknownSubgraph n name) = f ≡ fault.UnknownSubgraph n name
+IsFaultOrMemory f (fault.UnknownType n name) = f ≡ fault.UnknownType n name

@@ -17,8 +17,8 @@ pub record EntryFits (rules : List SubRule) (schema : List TypeDef) (entry : Ent
   pub subs : All (Contains (names rules)) (subs_of entry)
   pub types : All (λ name. is_input schema name ≡ true) (types_of entry)
 
-abbrev pub Fits : List SubRule → List TypeDef → List Entry → Type 0
-Fits rules schema entries = All (EntryFits rules schema) entries
+abbrev pub EntriesFit : List SubRule → List TypeDef → List Entry → Type 0
+EntriesFit rules schema entries = All (EntryFits rules schema) entries
 
 -- the numbers of a configuration are in their ranges, and the names of its subgraphs are distinct
 pub record IsLawfulConfig (config : Config) : Type 0 where
@@ -33,4 +33,4 @@ pub record IsLawfulConfig (config : Config) : Type 0 where
 pub record IsLawful (site : Site) : Type 0 where
   pub config : IsLawfulConfig site.config
   pub plans : AreLawful site.plans.entries.items
-  pub fit : Fits site.config.subs site.schema site.plans.entries.items
+  pub fit : EntriesFit site.config.subs site.schema site.plans.entries.items

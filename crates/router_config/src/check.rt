@@ -3,7 +3,7 @@ ghost use Rattle.std.specs.Option.{option_copied};
 ghost use Rattle.std.specs.List.{flat_map};
 ghost use Rattle.router_config.specs.Rules.{is_ruled};
 ghost use Rattle.router_config.specs.Faults as spec;
-ghost use Rattle.router_config.specs.Faults.{IsFirst};
+ghost use Rattle.router_config.specs.Faults.{IsFirstFault};
 
 use crate::config::SubRule;
 use crate::fault::SiteFault;
@@ -62,7 +62,7 @@ fn first_not_input<'a>(schema: &Schema, operations: &'a [Operation]) -> Option<&
 }
 
 fn unknown_subgraph(number: u64, name: &Text) -> SiteFault
-    ensures { spec.IsOrMemory (spec.unknown_subgraph number name.now) result }
+    ensures { spec.IsFaultOrMemory (spec.unknown_subgraph number name.now) result }
 {
     match name.copy() {
         Ok(name) => SiteFault::UnknownSubgraph(number, name),
@@ -71,7 +71,7 @@ fn unknown_subgraph(number: u64, name: &Text) -> SiteFault
 }
 
 fn unknown_type(number: u64, name: &Text) -> SiteFault
-    ensures { spec.IsOrMemory (spec.unknown_type number name.now) result }
+    ensures { spec.IsFaultOrMemory (spec.unknown_type number name.now) result }
 {
     match name.copy() {
         Ok(name) => SiteFault::UnknownType(number, name),
@@ -88,7 +88,7 @@ fn check_entry(
 ) -> Result<(), SiteFault>
     ensures ok { IsOk result ↔ (spec.entry_faults rules.now schema.now number entry.now ≡ []) }
     ensures fault { IfErr result
-        (IsFirst (spec.entry_faults rules.now schema.now number entry.now)) }
+        (IsFirstFault (spec.entry_faults rules.now schema.now number entry.now)) }
 {
     if let Some(name) = first_unruled(rules, entry.plan.fetches.as_slice()) {
         return Err(unknown_subgraph(number, name));
@@ -102,7 +102,7 @@ fn check_entry(
 /// Looks at the entries in their order. Memory is taken for the name in a fault alone.
 pub fn check_entries(rules: &[SubRule], schema: &Schema, entries: &[Entry]) -> Result<(), SiteFault>
     ensures ok { IsOk result ↔ (spec.faults_of rules.now schema.now entries.now ≡ []) }
-    ensures fault { IfErr result (IsFirst (spec.faults_of rules.now schema.now entries.now)) }
+    ensures fault { IfErr result (IsFirstFault (spec.faults_of rules.now schema.now entries.now)) }
 {
     for i in 0..entries.len() {
         match check_entry(rules, schema, i as u64, &entries[i]) {

@@ -18,8 +18,8 @@ pub struct Site {
 
 impl Site {
     ghost use Rattle.router_config.specs.Rules as rules;
-    ghost use Rattle.router_config.specs.Faults.{faults_of, IsFirst};
-    ghost use Rattle.router_config.specs.Lawful.{Fits, IsLawful, IsLawfulConfig};
+    ghost use Rattle.router_config.specs.Faults.{faults_of, IsFirstFault};
+    ghost use Rattle.router_config.specs.Lawful.{EntriesFit, IsLawful, IsLawfulConfig};
     ghost use Rattle.plan_book.specs.Book.{AreLawful};
 
     /// The site of these parts, or the first fault, entry by entry: in an entry its fetches' subgraphs are looked at first,
@@ -35,14 +35,14 @@ impl Site {
         ensures plans { IfOk result (λ site. site.plans ≡ plans) }
 
         // Then each fetch names a rule, and each variable's innermost type is an input type.
-        ensures fits { OnOk result (Fits config.subs schema plans.entries.items) }
+        ensures fits { OnOk result (EntriesFit config.subs schema plans.entries.items) }
 
         // So a site of lawful parts is lawful.
         ensures lawful { IfOk result (λ site.
             IsLawfulConfig config → AreLawful plans.entries.items → IsLawful site) }
 
         // Else the answer is the first fault.
-        ensures fault { IfErr result (IsFirst (faults_of config.subs schema plans.entries.items)) }
+        ensures fault { IfErr result (IsFirstFault (faults_of config.subs schema plans.entries.items)) }
     {
         match check_entries(config.subs.as_slice(), &schema, &plans.entries) {
             Ok(()) => Ok(Site {

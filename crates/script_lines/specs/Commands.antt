@@ -25,7 +25,7 @@ pub record HasForm (line : List (List ℕ)) (verb : List ℕ) (count : ℕ) : Ty
   pub verb_is : word line 0 ≡ verb
 
 -- a word that is not empty
-pub record IsText (w text : List ℕ) : Type 0 where
+pub record IsWordText (w text : List ℕ) : Type 0 where
   pub same : text ≡ w
   pub some : 0 < length w
 
@@ -74,10 +74,10 @@ IsTagWord w tags = ((w ≡ codes "-") × (tags ≡ tags_of [])) ⊎ ((w ≢ code
 
 -- the words from a place on are the texts of a key
 pub record IsKey (line : List (List ℕ)) (at : ℕ) (key : Key) : Type 0 where
-  pub sub : IsText (word line at) key.sub
-  pub type_name : IsText (word line (at + 1)) key.type_name
-  pub rep : IsText (word line (at + 2)) key.rep
-  pub sel : IsText (word line (at + 3)) key.sel
+  pub sub : IsWordText (word line at) key.sub
+  pub type_name : IsWordText (word line (at + 1)) key.type_name
+  pub rep : IsWordText (word line (at + 2)) key.rep
+  pub sel : IsWordText (word line (at + 3)) key.sel
 
 -- begin W
 pub record SaysBegin (line : List (List ℕ)) (who : ℕ) : Type 0 where
@@ -100,7 +100,7 @@ pub record SaysSettle (line : List (List ℕ)) (epoch ticket lifetime age : ℕ)
   pub age_is : IsSpan (word line 3) age
   pub scope_is : IsScope (word line 4) private
   pub tags_is : IsTagWord (word line 5) tags
-  pub value_is : IsText (word line 6) value
+  pub value_is : IsWordText (word line 6) value
 
 -- reply E.T STATUS AGE TAGS VALUE CC, where CC is the rest of the line, which may be empty
 pub record SaysReply (line : List (List ℕ)) (epoch ticket status : ℕ) (age : Option (List ℕ)) (tags : Tags) (value : List ℕ) (cache_control : Option (List ℕ)) : Type 0 where
@@ -110,7 +110,7 @@ pub record SaysReply (line : List (List ℕ)) (epoch ticket status : ℕ) (age :
   pub status_is : IsStatus (word line 2) status
   pub age_is : IsOptionalWord (word line 3) age
   pub tags_is : IsTagWord (word line 4) tags
-  pub value_is : IsText (word line 5) value
+  pub value_is : IsWordText (word line 5) value
   pub cache_control_is : IsOptional (rest_from line 6) cache_control
 
 -- fail E.T
@@ -122,14 +122,14 @@ pub record SaysFail (line : List (List ℕ)) (epoch ticket : ℕ) : Type 0 where
 pub record SaysVoidSubgraph (line : List (List ℕ)) (sub : List ℕ) : Type 0 where
   pub form : HasForm line (codes "void") 4
   pub kind : word line 2 ≡ codes "sub"
-  pub sub_is : IsText (word line 3) sub
+  pub sub_is : IsWordText (word line 3) sub
 
 -- void W type S T, void W tag S G
 pub record SaysVoidWithin (line : List (List ℕ)) (kind sub within : List ℕ) : Type 0 where
   pub form : HasForm line (codes "void") 5
   pub kind_is : word line 2 ≡ kind
-  pub sub_is : IsText (word line 3) sub
-  pub within_is : IsText (word line 4) within
+  pub sub_is : IsWordText (word line 3) sub
+  pub within_is : IsWordText (word line 4) within
 
 abbrev pub SaysTarget : List (List ℕ) → Target → Type 0
 SaysTarget line (target.Subgraph sub) = SaysVoidSubgraph line sub
@@ -151,6 +151,6 @@ Says line (command.Void who target) = SaysVoid line who target
 Says line command.Tally = HasForm line (codes "tally") 1
 
 -- the command that the words are, or none
-abbrev pub IsRead : List (List ℕ) → Option Command → Type 0
-IsRead line (Some c) = Says line c
-IsRead line None = (c : Command) → Says line c → ⊥
+abbrev pub IsCommandRead : List (List ℕ) → Option Command → Type 0
+IsCommandRead line (Some c) = Says line c
+IsCommandRead line None = (c : Command) → Says line c → ⊥

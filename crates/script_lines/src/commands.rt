@@ -1,6 +1,6 @@
 ghost use Rattle.std.specs.Prelude.{◌≡◌, ◌≤◌, ◌↔◌, IfOk, IsTrue};
 ghost use Rattle.script_lines.specs.Script.{words};
-ghost use Rattle.script_lines.specs.Commands.{HasForm, IsRead};
+ghost use Rattle.script_lines.specs.Commands.{HasForm, IsCommandRead};
 
 use crate::lines::{has_count, word_at};
 use crate::readers::{read_begin, read_fail, read_look, read_reply, read_settle, read_void};
@@ -53,7 +53,7 @@ pub enum Command {
 /// What a line asks for, if it is a command. Linear in the line. Takes memory for the texts of the command
 /// and for the tags that it lists, doubles too.
 pub fn read_command(alloc: Global, line: &str) -> Result<Option<Command>, Memory>
-    ensures { IfOk result (λ c. IsRead (words line.now) c) }
+    ensures { IfOk result (λ c. IsCommandRead (words line.now) c) }
 {
     if has_form(line, "begin", 2) {
         return Ok(read_begin(line));

@@ -2,7 +2,7 @@ ghost use Rattle.std.specs.Prelude.{◌≡◌, ℕ, Bool, length, MatchOption, I
 ghost use Rattle.cache_terms.specs.declared.keys.Key.{Key};
 ghost use Rattle.cache_terms.specs.declared.tags.Tags.{Tags};
 ghost use Rattle.script_lines.specs.Script.{words, IsNumber};
-ghost use Rattle.script_lines.specs.Commands.{IsCallerNumber, IsTicket, IsSpan, IsStatus, IsScope, IsOptional, IsText, IsTagWord, IsKey};
+ghost use Rattle.script_lines.specs.Commands.{IsCallerNumber, IsTicket, IsSpan, IsStatus, IsScope, IsOptional, IsWordText, IsTagWord, IsKey};
 
 use crate::lines::{parts_of, word_at};
 use cache_terms::{Key, Tags};
@@ -100,7 +100,7 @@ pub fn optional(alloc: Global, text: &str) -> Result<Option<Text>, Memory>
 pub fn text_of(alloc: Global, word: &str) -> Result<Option<Text>, Memory>
     ensures { IfOk result (λ o. MatchOption o
         (length word.now ≡ 0)
-        (λ text. IsText word.now text)) }
+        (λ text. IsWordText word.now text)) }
 {
     if word.is_empty() {
         return Ok(None);

@@ -1,7 +1,7 @@
 ghost use Rattle.std.specs.Prelude.{◌≡◌, codes, IfOk, MatchOption};
 ghost use Rattle.cache_terms.specs.declared.keys.Target.{Target};
 ghost use Rattle.script_lines.specs.Script.{words};
-ghost use Rattle.script_lines.specs.Commands.{word, HasForm, IsRead, SaysTarget};
+ghost use Rattle.script_lines.specs.Commands.{word, HasForm, IsCommandRead, SaysTarget};
 
 use crate::commands::Command;
 use crate::fields::{
@@ -14,7 +14,7 @@ use std::alloc::Global;
 
 pub fn read_begin(line: &str) -> Option<Command>
     requires { HasForm (words line.now) (codes "begin") 2 }
-    ensures { IsRead (words line.now) result }
+    ensures { IsCommandRead (words line.now) result }
 {
     let who = caller(word_at(line, 1))?;
     Some(Command::Begin { who })
@@ -22,7 +22,7 @@ pub fn read_begin(line: &str) -> Option<Command>
 
 pub fn read_fail(line: &str) -> Option<Command>
     requires { HasForm (words line.now) (codes "fail") 2 }
-    ensures { IsRead (words line.now) result }
+    ensures { IsCommandRead (words line.now) result }
 {
     let (epoch, ticket) = ticket_of(word_at(line, 1))?;
     Some(Command::Fail { epoch, ticket })
@@ -30,7 +30,7 @@ pub fn read_fail(line: &str) -> Option<Command>
 
 pub fn read_look(alloc: Global, line: &str) -> Result<Option<Command>, Memory>
     requires { HasForm (words line.now) (codes "look") 8 }
-    ensures { IfOk result (λ c. IsRead (words line.now) c) }
+    ensures { IfOk result (λ c. IsCommandRead (words line.now) c) }
 {
     let Some(who) = caller(word_at(line, 1)) else {
         return Ok(None);
@@ -51,7 +51,7 @@ pub fn read_look(alloc: Global, line: &str) -> Result<Option<Command>, Memory>
 
 pub fn read_settle(alloc: Global, line: &str) -> Result<Option<Command>, Memory>
     requires { HasForm (words line.now) (codes "settle") 7 }
-    ensures { IfOk result (λ c. IsRead (words line.now) c) }
+    ensures { IfOk result (λ c. IsCommandRead (words line.now) c) }
 {
     let Some((epoch, ticket)) = ticket_of(word_at(line, 1)) else {
         return Ok(None);
@@ -84,7 +84,7 @@ pub fn read_settle(alloc: Global, line: &str) -> Result<Option<Command>, Memory>
 
 pub fn read_reply(alloc: Global, line: &str) -> Result<Option<Command>, Memory>
     requires { word (words line.now) 0 ≡ codes "reply" }
-    ensures { IfOk result (λ c. IsRead (words line.now) c) }
+    ensures { IfOk result (λ c. IsCommandRead (words line.now) c) }
 {
     let Some((epoch, ticket)) = ticket_of(word_at(line, 1)) else {
         return Ok(None);
@@ -120,7 +120,7 @@ pub fn read_reply(alloc: Global, line: &str) -> Result<Option<Command>, Memory>
 
 pub fn read_void(alloc: Global, line: &str) -> Result<Option<Command>, Memory>
     requires { word (words line.now) 0 ≡ codes "void" }
-    ensures { IfOk result (λ c. IsRead (words line.now) c) }
+    ensures { IfOk result (λ c. IsCommandRead (words line.now) c) }
 {
     let Some(who) = caller(word_at(line, 1)) else {
         return Ok(None);

@@ -11,7 +11,7 @@ use Rattle.turn_lock.specs.declared.seats.Knows.{Knows}
 use Rattle.turn_lock.specs.Turns.{IsAt, part_of, turn_of}
 
 -- a member: its lock, its number, the state that it last left (or the opening state), its turns, and whether it is in turn
-pub record Standing (S : Type 0) : Type 0 where
+pub record MemberState (S : Type 0) : Type 0 where
   pub home : TableId
   pub number : ℕ
   pub last : S
@@ -25,12 +25,12 @@ pub record Gathered (S : Type 0) : Type 0 where
 
 module _ {S : Type 0} where
   -- the first part, or one that stands in
-  abbrev pub own : S → List (Part S) → Part S
-  own x [] = part_of 0 x []
-  own x (p ∷ ps) = p
+  abbrev pub first_part : S → List (Part S) → Part S
+  first_part x [] = part_of 0 x []
+  first_part x (p ∷ ps) = p
 
-  abbrev pub standing : S → Seat (Option S) (Knows S) → ℕ → Standing S
-  standing x seat n = record { home = seat.table_id; number = n; last = (own x seat.me.0.parts).last; turns = (own x seat.me.0.parts).turns; stage = seat.me.0.stage }
+  abbrev pub member_state : S → Seat (Option S) (Knows S) → ℕ → MemberState S
+  member_state x seat n = record { home = seat.table_id; number = n; last = (first_part x seat.me.0.parts).last; turns = (first_part x seat.me.0.parts).turns; stage = seat.me.0.stage }
 
   -- the slot is out with a seat in turn, and empty
   abbrev pub Holds : List (ℕ × Option S) → Stage S → Type 0
@@ -40,42 +40,42 @@ module _ {S : Type 0} where
 
   pub record IsMember (z : TableId) (x : S) (seat : Seat (Option S) (Knows S)) (n entries : ℕ) : Type 0 where
     pub table : IsAt z seat.table_id
-    pub one : seat.me.0.parts ≡ part_of n (own x seat.me.0.parts).last (own x seat.me.0.parts).turns ∷ []
+    pub one : seat.me.0.parts ≡ part_of n (first_part x seat.me.0.parts).last (first_part x seat.me.0.parts).turns ∷ []
     pub draws : seat.me.0.draws ≡ entries
     pub few : entries ≤ 72057594037927936
     pub slot : Holds seat.me.1 seat.me.0.stage
 
   -- the member came in at the ticket t, and found x
-  abbrev pub entered : Standing S → ℕ → S → Standing S
+  abbrev pub entered : MemberState S → ℕ → S → MemberState S
   entered m t x = record m { stage = Inside t x }
 
   -- its turn is over, and it left y
-  abbrev pub left : Standing S → ℕ → S → S → Standing S
+  abbrev pub left : MemberState S → ℕ → S → S → MemberState S
   left m t x y = record m { last = y; turns = m.turns ++ turn_of t x y ∷ []; stage = Outside }
 
   -- a member that did nothing yet
-  abbrev pub newcomer : TableId → S → ℕ → Standing S
+  abbrev pub newcomer : TableId → S → ℕ → MemberState S
   newcomer z x n = record { home = z; number = n; last = x; turns = []; stage = Outside }
 
   -- the members 0 to n - 1
-  abbrev pub newcomers : TableId → S → ℕ → List (Standing S)
+  abbrev pub newcomers : TableId → S → ℕ → List (MemberState S)
   newcomers z x zero = []
   newcomers z x (suc n) = newcomers z x n ++ newcomer z x n ∷ []
 
   -- all are members of this lock, and outside
-  abbrev pub AreOutside : TableId → List (Standing S) → Type 0
-  AreOutside z ms = All (λ (m : Standing S). m.stage ≡ Outside × m.home ≡ z) ms
+  abbrev pub AreOutside : TableId → List (MemberState S) → Type 0
+  AreOutside z ms = All (λ (m : MemberState S). m.stage ≡ Outside × m.home ≡ z) ms
 
-  abbrev pub part_for : Standing S → Part S
+  abbrev pub part_for : MemberState S → Part S
   part_for m = part_of m.number m.last m.turns
 
   -- all turns of these members
-  abbrev pub turns_of : List (Standing S) → List (Turn S)
+  abbrev pub turns_of : List (MemberState S) → List (Turn S)
   turns_of [] = []
   turns_of (m ∷ ms) = m.turns ++ turns_of ms
 
   -- what the members did, the last first
-  abbrev pub backwards : List (Standing S) → List (Part S)
+  abbrev pub backwards : List (MemberState S) → List (Part S)
   backwards [] = []
   backwards (m ∷ ms) = backwards ms ++ part_for m ∷ []
 

@@ -3,7 +3,7 @@ ghost use Rattle.std.specs.Prelude.{◌≡◌, ℕ, ◌+◌, ◌*◌, ◌<◌, [
 ghost use Rattle.atomic_table.specs.Seated.{TableId};
 ghost use Rattle.turn_lock.specs.declared.seats.Stage.TheVariants.{Outside, Waiting, Inside};
 ghost use Rattle.turn_lock.specs.declared.seats.Part.{Part};
-ghost use Rattle.turn_lock.specs.Turns.{IsAt, draws_of_one, in_turn_with, turn_over, Found};
+ghost use Rattle.turn_lock.specs.Turns.{IsAt, draws_of_one, in_turn_with, turn_over, LearnsState};
 
 use crate::plays::{Advance, Draw, Lock, Place, Watch};
 use crate::storied::Storied;
@@ -38,7 +38,7 @@ pub(crate) fn come_in<S: Storied, R: Wait>(
     requires waiting { (place.old.me.0.stage ≡ Waiting ticket) × (place.old.me.1 ≡ []) }
     ensures table { place.new.table_id ≡ place.old.table_id }
     ensures view { place.new.me ≡ (in_turn_with place.old.me.0 ticket result, (0, None) ∷ []) }
-    ensures found { Found S.follows S.without ticket result place.old.me.0.parts }
+    ensures found { LearnsState S.follows S.without ticket result place.old.me.0.parts }
 {
     let mut looks = 0;
     for _ in rt.forever() {

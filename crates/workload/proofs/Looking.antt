@@ -21,12 +21,12 @@ use Rattle.piece_fetch.specs.declared.fetched.Origin.TheVariants as origin
 use Rattle.piece_fetch.specs.declared.slots.Slot.{Slot}
 use Rattle.piece_fetch.specs.declared.slots.Slot.TheVariants as slot
 use Rattle.piece_fetch.specs.Offering.{is_null}
-use Rattle.piece_fetch.specs.Coming.{Settles, reports_of}
-use Rattle.piece_fetch.specs.Fetching.{slots_of, own_origin, ArePieces, no_more, hit, own, Fetches}
+use Rattle.piece_fetch.specs.Coming.{SettlesEach, reports_of}
+use Rattle.piece_fetch.specs.Fetching.{slots_of, own_origin, AreGathered, no_more, hit, own, FetchesPieces}
 use Rattle.plan_run.specs.declared.outcome.Receipt.{Receipt}
 use Rattle.plan_run.specs.Plans.{Wanted}
 use Rattle.plan_run.specs.Outcomes.{Done, turns_of, receipts_from, receipts_of}
-use Rattle.plan_run.specs.Requests.{Runs}
+use Rattle.plan_run.specs.Requests.{AreRun}
 use Rattle.workload.specs.Tallying.{hits_among, looked_in, looked_by}
 use Rattle.workload.specs.Between.{is_hit, has_hit}
 
@@ -36,7 +36,7 @@ module _ (count : List Found → ℕ) where
   looked_append (t ∷ ts) ys = omega (arith, looked_append ts ys)
 
   -- to settle is no look
-  settles_none : (ps : List Granted) (rs : List Report) (ts : List Turn) → Settles ps rs ts → looked_by count ts ≡ 0
+  settles_none : (ps : List Granted) (rs : List Report) (ts : List Turn) → SettlesEach ps rs ts → looked_by count ts ≡ 0
   settles_none [] [] [] s = refl
   settles_none (p ∷ ps) (r ∷ rs) (t ∷ ts) s =
       let one : looked_in count t.call t.answer ≡ 0 = ap (λ (c : Call). looked_in count c t.answer) s.0 in
@@ -48,7 +48,7 @@ module _ (count : List Found → ℕ) where
 
   -- a fetch has one look
   pub fetch_looked : (ask : Ask) (keys : List Key) (id : Option (List ℕ)) (line call : ℕ) (pass : Pinned) (now : ℕ) (turns : List Turn) (entries : List Entry) (f : Fetched)
-      (h : Fetches ask keys id line call pass now turns entries f) → looked_by count turns ≡ count h.answers
+      (h : FetchesPieces ask keys id line call pass now turns entries f) → looked_by count turns ≡ count h.answers
   fetch_looked ask keys id line call pass now turns entries f h =
       let one : looked_in count h.look.call h.look.answer ≡ count h.answers = ap (λ (c : Call). looked_in count c h.look.answer) h.looks ∙ ap (λ (a : Answer). looked_in count (Look pass id keys now) a) h.looked in
       let none : looked_by count h.settles ≡ 0 = settles_none (permits_of h.answers) (reports_of ask (length (permits_of h.answers)) h.coming) h.settles h.settled in
@@ -83,7 +83,7 @@ own_is_none line call v = by_test (is_null v)
     by_test false = refl
 
 hits_pieces : (line call : ℕ) (slots : List Slot) (came : List Brought) (pieces : List Json) (origins : List Origin) (times : List (Option Lasts))
-    → ArePieces line call slots came pieces origins times → hits_in slots ≡ hits_of origins
+    → AreGathered line call slots came pieces origins times → hits_in slots ≡ hits_of origins
 hits_pieces line call _ _ _ _ _ no_more = refl
 hits_pieces line call _ _ _ _ _ (hit lookup stored value lasts piece slots came pieces origins times reads rest) = ap (λ (n : ℕ). 1 + n) (hits_pieces line call slots came pieces origins times rest)
 hits_pieces line call _ _ _ _ _ (own one slots came pieces origins times rest) =
@@ -107,11 +107,11 @@ counted_hits [] = refl
 counted_hits (r ∷ rs) = sum_by-cons (λ (x : Receipt). if has_hit x then 1 else 0) r rs ∙ ap (λ (n : ℕ). one_if (has_hit r) + n) (counted_hits rs)
 
 fetch_hits : (ask : Ask) (keys : List Key) (id : Option (List ℕ)) (line call : ℕ) (pass : Pinned) (now : ℕ) (turns : List Turn) (entries : List Entry) (f : Fetched) (fetch : ℕ)
-    → Fetches ask keys id line call pass now turns entries f → looked_by hits_among turns ≡ receipt_hits (receipts_from fetch 0 f.origins.items)
+    → FetchesPieces ask keys id line call pass now turns entries f → looked_by hits_among turns ≡ receipt_hits (receipts_from fetch 0 f.origins.items)
 fetch_hits ask keys id line call pass now turns entries f fetch h =
     fetch_looked hits_among ask keys id line call pass now turns entries f h ∙ hits_slots h.answers ∙ hits_pieces line call _ _ _ _ _ h.pieces ∙ sym (hits_from fetch 0 f.origins.items)
 
-run_hits : (id : Option (List ℕ)) (line : ℕ) (pass : Pinned) (calls : ℕ) (ws : List Wanted) (ds : List Done) → Runs id line pass calls ws ds
+run_hits : (id : Option (List ℕ)) (line : ℕ) (pass : Pinned) (calls : ℕ) (ws : List Wanted) (ds : List Done) → AreRun id line pass calls ws ds
     → looked_by hits_among (turns_of ds) ≡ receipt_hits (receipts_of ws ds)
 run_hits id line pass calls [] [] runs = refl
 run_hits id line pass calls (w ∷ ws) (d ∷ ds) runs =
@@ -122,6 +122,6 @@ run_hits id line pass calls [] (d ∷ ds) runs = absurd runs
 run_hits id line pass calls (w ∷ ws) [] runs = absurd runs
 
 -- the hits of a run's looks are those that its receipts tell
-pub hits_told : (id : Option (List ℕ)) (line : ℕ) (pass : Pinned) (calls : ℕ) (ws : List Wanted) (ds : List Done) → Runs id line pass calls ws ds
+pub hits_told : (id : Option (List ℕ)) (line : ℕ) (pass : Pinned) (calls : ℕ) (ws : List Wanted) (ds : List Done) → AreRun id line pass calls ws ds
     → looked_by hits_among (turns_of ds) ≡ count_by has_hit (receipts_of ws ds)
 hits_told id line pass calls ws ds runs = run_hits id line pass calls ws ds runs ∙ sym (counted_hits (receipts_of ws ds))

@@ -25,10 +25,10 @@ use Rattle.fetch_asks.specs.declared.ask.Ask.{Ask}
 use Rattle.piece_fetch.specs.declared.came.Coming.{Coming}
 use Rattle.piece_fetch.specs.declared.fetched.Fetched.{Fetched}
 use Rattle.piece_fetch.specs.Coming.{Sends}
-use Rattle.piece_fetch.specs.Fetching.{Fetches}
+use Rattle.piece_fetch.specs.Fetching.{FetchesPieces}
 use Rattle.plan_run.specs.Plans.{Wanted}
 use Rattle.plan_run.specs.Outcomes.{Done, turns_of, entries_of}
-use Rattle.plan_run.specs.Requests.{Runs}
+use Rattle.plan_run.specs.Requests.{AreRun}
 use Rattle.workload.specs.Tallying.{raised, misses_among, looked_by}
 use Rattle.workload.specs.Between.{is_ticket, is_ticketed, tickets_named, tickets_sent}
 use Rattle.workload.proofs.Looking.{looked_append, fetch_looked}
@@ -118,7 +118,7 @@ tickets_append [] ys = omega arith
 tickets_append (e ∷ es) ys = omega (arith, tickets_append es ys)
 
 fetch_misses : (ask : Ask) (keys : List Key) (id : Option (List ℕ)) (line call : ℕ) (pass : Pinned) (now : ℕ) (turns : List Turn) (entries : List Entry) (f : Fetched)
-    → Fetches ask keys id line call pass now turns entries f → EachSteps turns → looked_by misses_among turns ≡ tickets_sent entries
+    → FetchesPieces ask keys id line call pass now turns entries f → EachSteps turns → looked_by misses_among turns ≡ tickets_sent entries
 fetch_misses ask keys id line call pass now turns entries f h steps =
     let look : Step h.look.found h.look.call h.look.answer h.look.left = (subst EachSteps h.turns_are steps).0 in
     let looked : Step h.look.found (Look pass id keys now) (Looked h.answers) h.look.left =
@@ -128,7 +128,7 @@ fetch_misses ask keys id line call pass now turns entries f h steps =
     ∙ sym (sent_tickets ask id (permits_of h.answers) entries h.coming h.sends)
 
 -- the misses of a run's looks are the tickets under which its calls were made
-pub misses_told : (id : Option (List ℕ)) (line : ℕ) (pass : Pinned) (calls : ℕ) (ws : List Wanted) (ds : List Done) → Runs id line pass calls ws ds → EachSteps (turns_of ds)
+pub misses_told : (id : Option (List ℕ)) (line : ℕ) (pass : Pinned) (calls : ℕ) (ws : List Wanted) (ds : List Done) → AreRun id line pass calls ws ds → EachSteps (turns_of ds)
     → looked_by misses_among (turns_of ds) ≡ tickets_sent (entries_of ds)
 misses_told id line pass calls [] [] runs steps = refl
 misses_told id line pass calls (w ∷ ws) (d ∷ ds) runs steps =

@@ -5,7 +5,7 @@ use Rattle.flow_base.specs.Causes.{Rose, AppendsFront}
 use Rattle.cache_terms.specs.declared.keys.Key.{Key}
 use Rattle.cache_terms.specs.declared.events.Mark.{Mark}
 use Rattle.cache_terms.specs.declared.events.Mark.TheVariants as mark
-use Rattle.line_base.specs.Lines.{Entry, Named}
+use Rattle.line_base.specs.Lines.{Entry, PermitName}
 use Rattle.plan_run.specs.declared.outcome.Receipt.{Receipt}
 use Rattle.piece_fetch.specs.declared.fetched.Origin.{Origin}
 use Rattle.piece_fetch.specs.declared.fetched.Origin.TheVariants as origin
@@ -48,7 +48,7 @@ abbrev pub is_ticketed : ℕ × Mark × Key → Bool
 is_ticketed p = is_ticket p.1
 
 -- how many of the permits have a ticket
-abbrev pub tickets_named : List Named → ℕ
+abbrev pub tickets_named : List PermitName → ℕ
 tickets_named [] = 0
 tickets_named (n ∷ ns) = (if is_ticket n.mark then 1 else 0) + tickets_named ns
 

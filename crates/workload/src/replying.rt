@@ -3,7 +3,7 @@
 ghost use Rattle.std.specs.Prelude.{◌≡◌, ◌++◌, ◌≢◌, map, codes, Some, None, IfOk, OnOk, string_bytes};
 ghost use Rattle.json_value.specs.Members as by_name;
 ghost use Rattle.json_value.specs.declared.fault.JsonFault.TheVariants as faults;
-ghost use Rattle.piece_fetch.specs.Between.{behind};
+ghost use Rattle.piece_fetch.specs.Between.{after_commas};
 ghost use Rattle.case_file.specs.Forms as forms;
 ghost use Rattle.workload.specs.Replying as spec;
 ghost use Rattle.workload.specs.Replying.{form_text, forms_text, IsReplied};
@@ -40,7 +40,7 @@ fn put_form(alloc: Global, text: &mut String, form: Form, item: u64) -> Result<(
 /// Appends what is written of each of these items, with a comma before it.
 fn put_behind(alloc: Global, text: &mut String, form: Form, items: &[u64]) -> Result<(), Memory>
     ensures { OnOk result (string_bytes text.new
-        ≡ string_bytes text.old ++ behind (map (form_text form) items.now)) }
+        ≡ string_bytes text.old ++ after_commas (map (form_text form) items.now)) }
 {
     for item in items {
         text.push(',')?;

@@ -12,17 +12,17 @@ returns-then-n-gt0-clause-goes_on c =
 
 pub returns-in_ok-push-in-Some-clause-some : goal.returns-in_ok-push-in-Some-clause-some
 returns-in_ok-push-in-Some-clause-some c =
-    let found : spec.escape c.args.source.now ≡ Some (c.in-Some.c, c.in-Some.length) = cc in
+    let found : spec.escape_read c.args.source.now ≡ Some (c.in-Some.c, c.in-Some.length) = cc in
     (escape_cut c.args.source.now (c.in-Some.c, c.in-Some.length) found).some
 
 pub returns-in_ok-push-in-Some-clause-cut : goal.returns-in_ok-push-in-Some-clause-cut
 returns-in_ok-push-in-Some-clause-cut c =
-    let found : spec.escape c.args.source.now ≡ Some (c.in-Some.c, c.in-Some.length) = cc in
+    let found : spec.escape_read c.args.source.now ≡ Some (c.in-Some.c, c.in-Some.length) = cc in
     cut_escape c.args.source.now (c.in-Some.c, c.in-Some.length) c.utf8.source found
 
 pub returns-in_ok-push-in-Some-clause-goes_on : goal.returns-in_ok-push-in-Some-clause-goes_on
 returns-in_ok-push-in-Some-clause-goes_on c =
-    let found : spec.escape c.args.source.now ≡ Some (c.in-Some.c, c.in-Some.length) = cc in
+    let found : spec.escape_read c.args.source.now ≡ Some (c.in-Some.c, c.in-Some.length) = cc in
     let is : string_bytes c.push.new.self ≡ string_bytes c.args.text.now ++ encode_utf8 c.in-Some.c = search rules in
     goes_escape (string_bytes c.args.text.now) c.args.source.now (string_bytes c.push.new.self) (c.in-Some.c, c.in-Some.length) found is
 
@@ -36,6 +36,6 @@ pub returns-in_ok-push-in-None-clause-goes_on : goal.returns-in_ok-push-in-None-
 returns-in_ok-push-in-None-clause-goes_on c =
     let front : c.plain_length-n.result ≡ 0 = omega arith in
     let first : 0 < length c.args.source.now → get_or c.args.source.now 0 0 ≡ 92 = rw (c.as_bytes-bytes.ensures.value, front) at c.plain_length-n.ensures.ends in
-    let none : spec.escape c.args.source.now ≡ None = cc in
+    let none : spec.escape_read c.args.source.now ≡ None = cc in
     let is : string_bytes c.push-in-None.new.self ≡ string_bytes c.args.text.now ++ encode_utf8 92 = search rules in
     goes_backslash (string_bytes c.args.text.now) c.args.source.now (string_bytes c.push-in-None.new.self) none c.requires (first c.requires) is

@@ -6,7 +6,7 @@ use Rattle.gql_leaves.specs.Bares.{bare, list_of, named as named_type}
 use Rattle.gql_leaves.proofs.Bares.{bare-Named, bare-ListOf, bare-NonNull}
 use Rattle.gql_types.specs.Schemas.{inputs}
 use Rattle.gql_inputs.specs.Coercing as spec
-use Rattle.gql_inputs.specs.Coercing.{fine, refused, Coerces, Follows, Field, Fields, Items, Refuses, is_given, is_default, is_left_out, is_missing}
+use Rattle.gql_inputs.specs.Coercing.{fine, refused, Coerces, FollowsRule, CoercesField, CoercesFields, Items, RefusesAt, is_given, is_default, is_left_out, is_missing}
 use Rattle.json_value.specs.Members.{named}
 use Rattle.gql_terms.proofs.documents.TypeRef.TheLaws.{the_size as type_size}
 use Rattle.gql_inputs.proofs.Depth.{field-in}
@@ -57,14 +57,14 @@ coerce_some-returns-in-Named-clause-refused t c =
 
 pub coerce_list-returns-in_err-made-in-List-clause-refused : goal.coerce_list-returns-in_err-made-in-List-clause-refused
 coerce_list-returns-in_err-made-in-List-clause-refused t c =
-    handed (λ e. Refuses e (λ q. Follows c.args.schema.now (spec.list_rule c.args.inner.now (out-Json c.args.value.now)) c.args.value.now c.args.spots.now.items (refused q))) c.from_residual.result c.in_err-made-in-List.field-0.0 c.from_residual.ensures.1 (Refuses-map c.in_err-made-in-List.field-0.0 c.in_err-made-in-List.ensures.refused
+    handed (λ e. RefusesAt e (λ q. FollowsRule c.args.schema.now (spec.list_rule c.args.inner.now (out-Json c.args.value.now)) c.args.value.now c.args.spots.now.items (refused q))) c.from_residual.result c.in_err-made-in-List.field-0.0 c.from_residual.ensures.1 (Refuses-map c.in_err-made-in-List.field-0.0 c.in_err-made-in-List.ensures.refused
     (λ q k. by.list_items c.args.schema.now c.args.value.now c.args.spots.now.items c.args.inner.now c.as_slice.result.now (refused q) (cc) k))
 
 pub coerce_list-returns-in_err-one-in_default : goal.coerce_list-returns-in_err-one-in_default
 coerce_list-returns-in_err-one-in_default t c =
     record {
-      fine = no_value (λ w. Follows c.args.schema.now (spec.list_rule c.args.inner.now (out-Json c.args.value.now)) c.args.value.now c.args.spots.now.items (fine w)) c.from_residual-in_err-one-in_default.result (λ x. x ≡ c.in_err-one-in_default.field-0.0) c.from_residual-in_err-one-in_default.ensures.1;
-      refused = handed (λ e. Refuses e (λ q. Follows c.args.schema.now (spec.list_rule c.args.inner.now (out-Json c.args.value.now)) c.args.value.now c.args.spots.now.items (refused q))) c.from_residual-in_err-one-in_default.result c.in_err-one-in_default.field-0.0 c.from_residual-in_err-one-in_default.ensures.1 (Refuses-map c.in_err-one-in_default.field-0.0 c.in_err-one-in_default.ensures.refused
+      fine = no_value (λ w. FollowsRule c.args.schema.now (spec.list_rule c.args.inner.now (out-Json c.args.value.now)) c.args.value.now c.args.spots.now.items (fine w)) c.from_residual-in_err-one-in_default.result (λ x. x ≡ c.in_err-one-in_default.field-0.0) c.from_residual-in_err-one-in_default.ensures.1;
+      refused = handed (λ e. RefusesAt e (λ q. FollowsRule c.args.schema.now (spec.list_rule c.args.inner.now (out-Json c.args.value.now)) c.args.value.now c.args.spots.now.items (refused q))) c.from_residual-in_err-one-in_default.result c.in_err-one-in_default.field-0.0 c.from_residual-in_err-one-in_default.ensures.1 (Refuses-map c.in_err-one-in_default.field-0.0 c.in_err-one-in_default.ensures.refused
           (λ q k. by.list_alone c.args.schema.now c.args.value.now c.args.spots.now.items c.args.inner.now (refused q) c.in_default.not-List k));
       back = no_value (λ _. c.coerce_value.new.spots.items ≡ c.args.spots.now.items) c.from_residual-in_err-one-in_default.result (λ x. x ≡ c.in_err-one-in_default.field-0.0) c.from_residual-in_err-one-in_default.ensures.1;
     }
@@ -83,7 +83,7 @@ coerce_list-returns-in_ok-one-in_default t c =
 
 pub coerce_items-returns-in_err-value-clause-refused : goal.coerce_items-returns-in_err-value-clause-refused
 coerce_items-returns-in_err-value-clause-refused t c =
-    handed (λ e. Refuses e (λ q. Items c.args.schema.now c.args.inner.now c.args.spots.now.items 0 c.args.items.now (refused q))) c.from_residual.result c.in_err-value.field-0.0 c.from_residual.ensures.1 (Refuses-map c.in_err-value.field-0.0 c.in_err-value.ensures.refused
+    handed (λ e. RefusesAt e (λ q. Items c.args.schema.now c.args.inner.now c.args.spots.now.items 0 c.args.items.now (refused q))) c.from_residual.result c.in_err-value.field-0.0 c.from_residual.ensures.1 (Refuses-map c.in_err-value.field-0.0 c.in_err-value.ensures.refused
     (λ q k. run.items_stop c.args.schema.now c.args.inner.now c.args.spots.now.items c.args.items.now c.loop-i.i c.loop-i.made c.loop-i.invariant.run c.index-items-i.result c.loop-i-test.true c.index-items-i.is q (rw c.loop-i.invariant.back at k)))
 
 pub coerce_items-loop-i-preserved : goal.coerce_items-loop-i-preserved
@@ -136,20 +136,20 @@ coerce_fields-coerce_field-requires t c =
 
 pub coerce_fields-returns-in_err-value-clause-refused : goal.coerce_fields-returns-in_err-value-clause-refused
 coerce_fields-returns-in_err-value-clause-refused t c =
-    handed (λ e. Refuses e (λ q. Fields c.args.schema.now c.args.members.now c.args.spots.now.items c.args.fields.now (refused q))) c.from_residual.result c.in_err-value.field-0.0 c.from_residual.ensures.1 (Refuses-map c.in_err-value.field-0.0 c.in_err-value.ensures.refused
+    handed (λ e. RefusesAt e (λ q. CoercesFields c.args.schema.now c.args.members.now c.args.spots.now.items c.args.fields.now (refused q))) c.from_residual.result c.in_err-value.field-0.0 c.from_residual.ensures.1 (Refuses-map c.in_err-value.field-0.0 c.in_err-value.ensures.refused
     (λ q k. run.fields_stop c.args.schema.now c.args.members.now c.args.spots.now.items c.args.fields.now c.loop-i.i c.loop-i.made c.loop-i.invariant.run c.index-fields-i.result c.loop-i-test.true c.index-fields-i.is q (rw c.loop-i.invariant.back at k)))
 
 pub coerce_fields-loop-i-preserved : goal.coerce_fields-loop-i-preserved
 coerce_fields-loop-i-preserved t c =
     elim c.match-branch-2.branch [
       | coerce_fields-in-Some+in_ok-copy-in-Some+in_ok-push-in-Some w ↦ (
-          let done : Field c.args.schema.now c.args.members.now c.args.spots.now.items c.index-fields-i.result (fine (Some w.in-Some.value)) = rw (c.loop-i.invariant.back, w.in-Some.is) at c.in_ok-value.ensures.fine in
+          let done : CoercesField c.args.schema.now c.args.members.now c.args.spots.now.items c.index-fields-i.result (fine (Some w.in-Some.value)) = rw (c.loop-i.invariant.back, w.in-Some.is) at c.in_ok-value.ensures.fine in
           record {
             run = rw (w.made-is, w.in_ok-push-in-Some.ensures.ok, w.in_ok-copy-in-Some.ensures) (run.fields_some c.args.schema.now c.args.members.now c.args.spots.now.items c.args.fields.now c.loop-i.i c.loop-i.made c.loop-i.invariant.run c.index-fields-i.result c.loop-i-test.true c.index-fields-i.is w.in-Some.value done);
             back = c.in_ok-value.ensures.back ∙ c.loop-i.invariant.back;
           })
       | coerce_fields-in-None w ↦ (
-          let done : Field c.args.schema.now c.args.members.now c.args.spots.now.items c.index-fields-i.result (fine None) = rw (c.loop-i.invariant.back, w.in-None.is) at c.in_ok-value.ensures.fine in
+          let done : CoercesField c.args.schema.now c.args.members.now c.args.spots.now.items c.index-fields-i.result (fine None) = rw (c.loop-i.invariant.back, w.in-None.is) at c.in_ok-value.ensures.fine in
           record {
             run = rw w.made-is (run.fields_none c.args.schema.now c.args.members.now c.args.spots.now.items c.args.fields.now c.loop-i.i c.loop-i.made c.loop-i.invariant.run c.index-fields-i.result c.loop-i-test.true c.index-fields-i.is done);
             back = c.in_ok-value.ensures.back ∙ c.loop-i.invariant.back;
@@ -165,7 +165,7 @@ coerce_field-returns-in_err-made-clause-refused t c =
     let within : spec.place_of c.args.field.now.name c.args.members.now < length c.args.members.now = omega arith in
     let found : named c.args.field.now.name c.args.members.now ≡ Some (get_or c.args.members.now c.place_of-at.result c.index-members-at.result).1 =
     named-at c.args.field.now.name c.args.members.now c.index-members-at.result within ∙ ap (λ (i : ℕ). Some (get_or c.args.members.now i c.index-members-at.result).1) (sym c.place_of-at.ensures) in
-    handed (λ e. Refuses e (λ q. Field c.args.schema.now c.args.members.now c.args.spots.now.items c.args.field.now (refused q))) c.from_residual-in_err-made.result c.in_err-made.field-0.0 c.from_residual-in_err-made.ensures.1 (Refuses-map c.in_err-made.field-0.0 c.in_err-made.ensures.refused
+    handed (λ e. RefusesAt e (λ q. CoercesField c.args.schema.now c.args.members.now c.args.spots.now.items c.args.field.now (refused q))) c.from_residual-in_err-made.result c.in_err-made.field-0.0 c.from_residual-in_err-made.ensures.1 (Refuses-map c.in_err-made.field-0.0 c.in_err-made.ensures.refused
     (λ q k. is_given {o = refused q} found (rw c.in_ok-copy.ensures at k)))
 
 pub coerce_field-returns-then-at-members-clause-fine : goal.coerce_field-returns-then-at-members-clause-fine

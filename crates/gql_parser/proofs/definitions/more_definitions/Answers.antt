@@ -3,7 +3,7 @@ use Rattle.std.proofs.lemmas.Result.{err_from_is_err_and}
 use Rattle.gql_terms.specs.declared.documents.Document.{Document}
 use Rattle.gql_terms.specs.Grammar.{strict}
 use Rattle.gql_parser.specs.Reading.{begins_definition, definition}
-use Rattle.gql_parser.specs.Reads.{with}
+use Rattle.gql_parser.specs.Reads.{with_definition}
 use Rattle.gql_parser.proofs.Loops.{item_read, items_end, no_turns_left}
 use Rattle.gql_parser.proofs.Adding.{withs_last, loop_begins, exits_all}
 use Rattle.gql_parser.proofs.definitions.more_definitions.Goals as goal
@@ -16,7 +16,7 @@ loop-preserved c =
     let i = c.loop.invariant in
     let d = c.in_ok-definition.ensures in (
       i.0 ++ (d.0 ∷ []),
-      d.2 ∙ ap (λ (q : Document). with q d.0) i.1 ∙ sym (withs_last _ i.0 d.0),
+      d.2 ∙ ap (λ (q : Document). with_definition q d.0) i.1 ∙ sym (withs_last _ i.0 d.0),
       item_read begins_definition (definition strict) _ _ _ _ _ _ _ c.loop-test.true (sym c.sees.ensures ∙ c.if-not-sees.false) d.1 i.2,
     )
 

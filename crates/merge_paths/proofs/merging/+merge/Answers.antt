@@ -5,7 +5,7 @@ use Rattle.json_value.specs.Heights.{height, items_height, members_height}
 use Rattle.json_value.proofs.Heights.{item-height, member-height, height-list, height-object}
 use Rattle.std.proofs.lemmas.List.{set-set}
 use Rattle.std.proofs.lemmas.Bool.{cases_lt}
-use Rattle.merge_paths.specs.Taking.{left}
+use Rattle.merge_paths.specs.Taking.{not_taken}
 use Rattle.merge_paths.proofs.Lists.{same_there}
 use Rattle.merge_paths.proofs.Equations.{merge-null, merge-objects, merge-lists, merge-object, merge-list, merge-other}
 use Rattle.merge_paths.proofs.Progress.{element_done, rest_begins, rest_goes_on, member_taken, member_alone, all_merged}
@@ -56,7 +56,7 @@ merge_members-merge-requires t c =
 
 pub merge_members-loop-i-preserved : goal.merge_members-loop-i-preserved
 merge_members-loop-i-preserved t c = record {
-  done = member_taken c.loop-i.a c.set.new.self c.args.a (left c.loop-i.others) (left c.take.new.self) _ c.loop-i.i c.replace-name.result (get_or c.as_slice.result.now c.loop-i.i c.index-as_slice-i.result).0 (c.replace-name.result.0, c.in_ok-merged.merged) c.blank.result c.index-as_slice-i.result c.in-Some.other
+  done = member_taken c.loop-i.a c.set.new.self c.args.a (not_taken c.loop-i.others) (not_taken c.take.new.self) _ c.loop-i.i c.replace-name.result (get_or c.as_slice.result.now c.loop-i.i c.index-as_slice-i.result).0 (c.replace-name.result.0, c.in_ok-merged.merged) c.blank.result c.index-as_slice-i.result c.in-Some.other
       c.replace-name.ensures.item (ap (λ xs. (get_or xs c.loop-i.i c.index-as_slice-i.result).0) c.as_slice.ensures) c.in-Some.ensures.value c.in-Some.ensures.rest
       (c.set.ensures ∙ ap (λ xs. set xs c.loop-i.i (c.replace-name.result.0, c.in_ok-merged.merged)) c.replace-name.ensures.rest)
       (ap (λ (v : Json). (c.replace-name.result.0, v)) c.in_ok-merged.ensures) c.loop-i.invariant.done;
@@ -65,7 +65,7 @@ merge_members-loop-i-preserved t c = record {
 
 pub merge_members-loop-i-preserved-in_default : goal.merge_members-loop-i-preserved-in_default
 merge_members-loop-i-preserved-in_default t c = record {
-  done = member_alone c.loop-i.a c.args.a (left c.loop-i.others) (left c.take.new.self) _ c.loop-i.i c.index-as_slice-i.result c.index-as_slice-i.result (get_or c.as_slice.result.now c.loop-i.i c.index-as_slice-i.result).0
+  done = member_alone c.loop-i.a c.args.a (not_taken c.loop-i.others) (not_taken c.take.new.self) _ c.loop-i.i c.index-as_slice-i.result c.index-as_slice-i.result (get_or c.as_slice.result.now c.loop-i.i c.index-as_slice-i.result).0
       (omega (arith, c.loop-i-test.true, c.len-i-end.ensures, c.loop-i.invariant.done.long)) (ap (λ xs. (get_or xs c.loop-i.i c.index-as_slice-i.result).0) c.as_slice.ensures) c.in_default.ensures.value c.in_default.ensures.rest c.loop-i.invariant.done;
   indexed = c.in_default.ensures.indexed;
 }

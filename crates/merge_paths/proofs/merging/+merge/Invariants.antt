@@ -1,6 +1,6 @@
 use Rattle.std.proofs.Common.{◌+◌, ◌*◌}
 use Rattle.json_value.specs.Heights.{height, items_height, members_height}
-use Rattle.merge_paths.specs.Taking.{left, IsIndexed}
+use Rattle.merge_paths.specs.Taking.{not_taken, IsIndexed}
 use Rattle.merge_paths.specs.Levels.{merged_members, merged_elements}
 use Rattle.merge_paths.proofs.Progress.{Done, Both, Rest}
 use Rattle.merge_paths.proofs.merging.+merge.Given as goal
@@ -16,7 +16,7 @@ decreases-merge_elements l = 2 * items_height l.a + 1
 
 abbrev pub invariant-merge_members-loop-i : goal.invariant-merge_members-loop-i
 invariant-merge_members-loop-i l = record {
-  done : Done l.a l.fn.a (left l.others) (merged_members l.fn.a l.fn.b) l.i;
+  done : Done l.a l.fn.a (not_taken l.others) (merged_members l.fn.a l.fn.b) l.i;
   indexed : IsIndexed l.others;
 }
 

@@ -1,7 +1,7 @@
 use Rattle.std.proofs.Common.{◌≡◌, sym, ◌∙◌, ap, None, Some, rules}
 use Rattle.json_value.specs.declared.tree.Json.{Json}
 use Rattle.json_value.specs.Members.{named}
-use Rattle.merge_paths.specs.Merge.{without, IsFirst}
+use Rattle.merge_paths.specs.Merge.{without, IsFirstNamed}
 use Rattle.merge_paths.proofs.Progress.{without-absent, first_within, first_named_is, first_without}
 use Rattle.merge_paths.proofs.others.take_listed.Goals as goal
 
@@ -12,12 +12,12 @@ returns-in_default-clause-rest c =
 
 pub remove-value-requires : goal.remove-value-requires
 remove-value-requires c =
-    let one : IsFirst c.args.name.now c.args.listed.now c.in-Some.index = search rules in
+    let one : IsFirstNamed c.args.name.now c.args.listed.now c.in-Some.index = search rules in
     first_within c.args.name.now c.args.listed.now c.in-Some.index one
 
 pub returns-clause-value : goal.returns-clause-value
 returns-clause-value c =
-    let one : IsFirst c.args.name.now c.args.listed.now c.in-Some.index = search rules in
+    let one : IsFirstNamed c.args.name.now c.args.listed.now c.in-Some.index = search rules in
     let item = c.remove-value.ensures.item in
     let here = one.here in
     let same : one.member ≡ c.remove-value.result = cc in
@@ -25,5 +25,5 @@ returns-clause-value c =
 
 pub returns-clause-rest : goal.returns-clause-rest
 returns-clause-rest c =
-    let one : IsFirst c.args.name.now c.args.listed.now c.in-Some.index = search rules in
+    let one : IsFirstNamed c.args.name.now c.args.listed.now c.in-Some.index = search rules in
     c.remove-value.ensures.rest ∙ sym (first_without c.args.name.now c.args.listed.now c.in-Some.index one)

@@ -3,7 +3,7 @@ use Rattle.std.specs.Prelude.{◌==◌, ◌&&◌}
 use Rattle.json_value.specs.declared.tree.Json.{Json}
 use Rattle.plan_tree.specs.declared.plan.Node.{Node}
 use Rattle.plan_exec.specs.declared.tasks.Task.{Task}
-use Rattle.plan_exec.specs.Exec.{exec, in_turn, side_by_side, pieces_of}
+use Rattle.plan_exec.specs.Exec.{exec, one_by_one, side_by_side, pieces_of}
 use Rattle.plan_exec.specs.Ready.{ready, Waiting}
 use Rattle.plan_exec.specs.Levels.{first_of, each_of}
 use Rattle.plan_exec.specs.Tasks.{task_of, asked_if}
@@ -32,7 +32,7 @@ run-returns-in_ok-run_entities-in-Flatten-clause-tasks t c =
 
 pub run-returns-in_ok-run_in_turn-in-Sequence-clause-value : goal.run-returns-in_ok-run_in_turn-in-Sequence-clause-value
 run-returns-in_ok-run_in_turn-in-Sequence-clause-value t c =
-    c.in_ok-run_in_turn-in-Sequence.ensures.value ∙ ap (λ ns. in_turn (map (exec c.args.fetches.now c.args.given.now) ns) c.args.start) c.as_slice.ensures ∙ sym (exec-sequence c.args.fetches.now c.args.given.now c.in-Sequence.nodes c.args.start)
+    c.in_ok-run_in_turn-in-Sequence.ensures.value ∙ ap (λ ns. one_by_one (map (exec c.args.fetches.now c.args.given.now) ns) c.args.start) c.as_slice.ensures ∙ sym (exec-sequence c.args.fetches.now c.args.given.now c.in-Sequence.nodes c.args.start)
     ∙ ap (λ (n : Node). exec c.args.fetches.now c.args.given.now n c.args.start) (sym c.in-Sequence.is)
 
 pub run-returns-in_ok-run_in_turn-in-Sequence-clause-tasks : goal.run-returns-in_ok-run_in_turn-in-Sequence-clause-tasks

@@ -1,6 +1,6 @@
 use Rattle.std.proofs.Common.{◌≡◌, sym, ◌∙◌, ap, None, Some, List, ℕ, ◌++◌, ◌∷◌, [], rules, true, false}
 use Rattle.json_value.specs.declared.tree.Json.{Json}
-use Rattle.merge_paths.specs.Taking.{back}
+use Rattle.merge_paths.specs.Taking.{taken_back}
 use Rattle.merge_paths.proofs.Taken.{indexed_last}
 use Rattle.merge_paths.proofs.others.Others.index_last.Goals as goal
 
