@@ -3,20 +3,20 @@ use Rattle.std.proofs.Common.{◌≡◌, ◌⊎◌, inl, inr, ℕ, zero, suc, Bo
 use Rattle.std.specs.Prelude.{nat_eq, Contains}
 use Rattle.std.specs.List.{list_any}
 use Rattle.std.specs.Option.{option_map_or}
-use Rattle.std.specs.Ordering.{is_eq}
+use Rattle.std.specs.Str.{bytes_eq}
 use Rattle.std.specs.Cmp.Lexicographic.{nat_list_cmp_total}
 use Rattle.std.proofs.lemmas.Bool.Decides.{nat_tests}
 use Rattle.std.proofs.lemmas.List.Elements.{Contains-append_left, Contains-push, Contains-push_cases}
 use Rattle.std.proofs.lemmas.Map.Lookups.{exact_bytes}
 use Rattle.std.specs.BTreeMap as tree
+use Rattle.indexmap.specs.IndexMap.{IndexMap, get, Updates}
 use Rattle.std.specs.HashSet.{HashSet}
 use Rattle.std.specs.HashSet as hashed
 use Rattle.book_index.specs.declared.holders.Holders.{Holders}
 use Rattle.book_index.specs.declared.subgraph_holders.SubgraphHolders.{SubgraphHolders}
 use Rattle.book_index.specs.Positions.{text_cmp}
 use Rattle.book_index.specs.Holders.{holders_of, is_holder_in, SetsHolderIn, SetsHolders, HasSameHoldersIn}
-use Rattle.book_index.proofs.Sets.{sets_by}
-use Rattle.book_index.proofs.Rows.{equal}
+use Rattle.book_index.proofs.Sets.{SetsAt, sets_tree, sets_map, texts_exact}
 
 -- an equation of two answers holds where it holds both if P and if not P
 pub stable : (a b : Bool) (P : Type 0) → (P → a ≡ b) → ((P → ⊥) → a ≡ b) → a ≡ b
@@ -48,30 +48,32 @@ pub nothing : (xs : List ℕ) → length xs ≡ 0 → xs ≡ []
 nothing [] e = refl
 nothing (x ∷ xs) e = absurd (omega (arith, e))
 
--- a map that is the same, updated at a key that is the same
-pub updates_from : {X : Type 0} (a b new : tree.BTreeMap (List ℕ) X) (j k : List ℕ) (value : Option X) → a ≡ b → j ≡ k → tree.Updates text_cmp a new j value → tree.Updates text_cmp b new k value
-updates_from a b new j k value same_map same_key updates = subst (λ m. tree.Updates text_cmp m new k value) same_map (subst (λ (q : List ℕ). tree.Updates text_cmp a new q value) same_key updates)
+-- an update of the map of a name's positions
+pub sets_named : {X S : Type 0} (old new : IndexMap (List ℕ) X S) (name : List ℕ) (value : Option X) → Updates bytes_eq old new name value → SetsAt (λ k. get bytes_eq old k) (λ k. get bytes_eq new k) name value
+sets_named old new name value updates = sets_map bytes_eq texts_exact old new name value updates
 
-module _ {X A : Type 0} (view : Option X → A → Bool) (old new : tree.BTreeMap (List ℕ) X) (key : List ℕ) (value : Option X) (updates : tree.Updates text_cmp old new key value) where
-  pub is_there : tree.get text_cmp new key ≡ value
-  is_there = (sets_by text_cmp nat_list_cmp_total exact_bytes old new key value updates).0
+-- an update of the tree of a subgraph's holders
+pub sets_subgraph : {X : Type 0} (old new : tree.BTreeMap (List ℕ) X) (sub : List ℕ) (value : Option X) → tree.Updates text_cmp old new sub value → SetsAt (λ k. tree.get text_cmp old k) (λ k. tree.get text_cmp new k) sub value
+sets_subgraph old new sub value updates = sets_tree text_cmp nat_list_cmp_total exact_bytes old new sub value updates
 
-  pub this_at : (a : A) → view (tree.get text_cmp new key) a ≡ view value a
-  this_at a = ap (λ o. view o a) is_there
+-- a tree that is the same, updated at a key that is the same
+pub tree_updates_from : {X : Type 0} (a b new : tree.BTreeMap (List ℕ) X) (j k : List ℕ) (value : Option X) → a ≡ b → j ≡ k → tree.Updates text_cmp a new j value → tree.Updates text_cmp b new k value
+tree_updates_from a b new j k value same_map same_key updates = subst (λ m. tree.Updates text_cmp m new k value) same_map (subst (λ (q : List ℕ). tree.Updates text_cmp a new q value) same_key updates)
+
+module _ {X A : Type 0} (view : Option X → A → Bool) {old new : List ℕ → Option X} {key : List ℕ} {value : Option X} (set : SetsAt old new key value) where
+  pub this_at : (a : A) → view (new key) a ≡ view value a
+  this_at a = ap (λ o. view o a) set.this
 
   -- what is not at the key, or not At, is as it was
-  pub others_at : (At : A → Type 0) → ((a : A) → (At a → ⊥) → view value a ≡ view (tree.get text_cmp old key) a)
-      → (k : List ℕ) (a : A) → (((k ≡ key) × At a) → ⊥) → view (tree.get text_cmp new k) a ≡ view (tree.get text_cmp old k) a
-  others_at At rest k a apart = by (is_eq (text_cmp key k)) refl
+  pub others_at : (At : A → Type 0) → ((a : A) → (At a → ⊥) → view value a ≡ view (old key) a)
+      → (k : List ℕ) (a : A) → (((k ≡ key) × At a) → ⊥) → view (new k) a ≡ view (old k) a
+  others_at At rest k a apart = elim (set.others k) [ inl same ↦ there same | inr e ↦ ap (λ o. view o a) e ]
     where
-      by : (b : Bool) → is_eq (text_cmp key k) ≡ b → view (tree.get text_cmp new k) a ≡ view (tree.get text_cmp old k) a
-      by true tied =
-          let same : k ≡ key = sym (exact_bytes key k (equal (text_cmp key k) tied)) in
-          ap (λ (q : List ℕ). view (tree.get text_cmp new q) a) same ∙ this_at a ∙ rest a (λ h. apart (same, h)) ∙ ap (λ (q : List ℕ). view (tree.get text_cmp old q) a) (sym same)
-      by false tied = ap (λ o. view o a) (updates.2 k tied)
+      there : k ≡ key → view (new k) a ≡ view (old k) a
+      there same = ap (λ (q : List ℕ). view (new q) a) same ∙ this_at a ∙ rest a (λ h. apart (same, h)) ∙ ap (λ (q : List ℕ). view (old q) a) (sym same)
 
   -- where nothing differs at the key, nothing does at all
-  pub same_at : ((a : A) → view value a ≡ view (tree.get text_cmp old key) a) → (k : List ℕ) (a : A) → view (tree.get text_cmp new k) a ≡ view (tree.get text_cmp old k) a
+  pub same_at : ((a : A) → view value a ≡ view (old key) a) → (k : List ℕ) (a : A) → view (new k) a ≡ view (old k) a
   same_at rest k a = others_at (λ _. ⊥) (λ x _. rest x) k a (λ h. h.1)
 
 in_first : (tag : List ℕ) (rest : List (List ℕ)) (name : List ℕ) → Contains (tag ∷ rest) name → (tag ≡ name) ⊎ Contains rest name

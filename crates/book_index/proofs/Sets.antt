@@ -1,97 +1,120 @@
 -- What an update of a map leaves at each key.
-use Rattle.std.proofs.Common.{rules, ◌≡◌, ℕ, Bool, true, false, cond, List, Option, Some, None, refl, sym, ap, ◌∙◌}
+use Rattle.std.proofs.Common.{rules, ◌≡◌, ◌⊎◌, inl, inr, ℕ, Bool, true, false, ◌&&◌, cond, List, Option, Some, None, refl, sym, ap, subst, ◌∙◌}
 use Rattle.std.specs.declared.cmp.Ordering.{Ordering}
-use Rattle.std.specs.Ordering.{is_eq, ordering_then}
-use Rattle.std.specs.Cmp.{IsTotalOrder}
-use Rattle.std.specs.Cmp.Lexicographic.{nat_list_cmp_total}
-use Rattle.std.proofs.lemmas.Cmp.{tied_itself, on_total, then_total}
-use Rattle.std.proofs.lemmas.Map.Lookups.{CmpEqualImpliesEq, exact_bytes, exact_pairs}
+use Rattle.std.specs.Ordering.{is_eq}
+use Rattle.std.specs.Cmp.{IsTotalOrder, first_so, second_so}
+use Rattle.std.specs.Cmp.Lexicographic.{nat_list_cmp_total, bytes_decides}
+use Rattle.std.specs.Str.{bytes_eq}
+use Rattle.std.proofs.lemmas.Cmp.{tied_itself}
+use Rattle.std.proofs.lemmas.Map.Lookups.{CmpEqualImpliesEq, exact_bytes}
 use Rattle.std.specs.BTreeMap as tree
+use Rattle.indexmap.specs.IndexMap.{IndexMap, get, Updates}
 use Rattle.cache_terms.specs.declared.keys.Key.{Key}
 use Rattle.std.specs.Option.{option_and_then}
 use Rattle.book_index.specs.declared.key_index.Slot.{Slot}
 use Rattle.book_index.specs.declared.key_index.KeyIndex.{KeyIndex}
-use Rattle.book_index.specs.Positions.{text_cmp, key_cmp, in_slot, position_at, SetsText, SetsKey, HasSame, IsVacant}
+use Rattle.book_index.specs.Positions.{text_cmp, key_eq, in_slot, position_at, SetsText, SetsKey, HasSame, IsVacant}
 use Rattle.book_index.proofs.Rows.{equal}
 
-pub keys_total : IsTotalOrder key_cmp
-keys_total = then_total (on_total (λ k. k.sub) nat_list_cmp_total) (then_total (on_total (λ k. k.type_name) nat_list_cmp_total) (then_total (on_total (λ k. k.rep) nat_list_cmp_total) (on_total (λ k. k.sel) nat_list_cmp_total)))
+module _ {K X : Type 0} where
+  -- new has the value at the key, and at each other key what old has. Look-ups stand as functions, so that the lemmas serve trees and hash maps
+  pub record SetsAt (old new : K → Option X) (key : K) (value : Option X) : Type 0 where
+    pub this : new key ≡ value
+    pub others : (k : K) → (k ≡ key) ⊎ (new k ≡ old k)
 
 module _ {K X : Type 0} (R : K → K → Ordering) (o : IsTotalOrder R) (same : CmpEqualImpliesEq R) where
-  -- the key has the value, and each other key what it had
-  pub sets_by : (old new : tree.BTreeMap K X) (key : K) (value : Option X) → tree.UpdatesBy R (R key) old new value
-      → (tree.get R new key ≡ value) × ((other : K) → (other ≡ key → ⊥) → tree.get R new other ≡ tree.get R old other)
-  sets_by old new key value updates = (updates.0 key ∙ ap (λ r. cond (is_eq r) value (tree.get R old key)) (tied_itself o key), λ other apart. updates.2 other (by (is_eq (R key other)) refl apart))
+  -- an update of a tree whose order tells all keys apart
+  pub sets_tree : (old new : tree.BTreeMap K X) (key : K) (value : Option X) → tree.Updates R old new key value → SetsAt (λ k. tree.get R old k) (λ k. tree.get R new k) key value
+  sets_tree old new key value updates = record {
+    this = updates.0 key ∙ ap (λ r. cond (is_eq r) value (tree.get R old key)) (tied_itself o key);
+    others = λ k. by k (is_eq (R key k)) refl;
+  }
     where
-      by : {other : K} (b : Bool) → is_eq (R key other) ≡ b → (other ≡ key → ⊥) → b ≡ false
-      by {other} true tied apart = absurd (apart (sym (same key other (equal (R key other) tied))))
-      by {other} false tied apart = refl
+      by : (k : K) (b : Bool) → is_eq (R key k) ≡ b → (k ≡ key) ⊎ (tree.get R new k ≡ tree.get R old k)
+      by k true tied = inl (sym (same key k (equal (R key k) tied)))
+      by k false tied = inr (updates.2 k tied)
 
-pub sets_text : (old new : tree.BTreeMap (List ℕ) ℕ) (id : List ℕ) (value : Option ℕ) → tree.UpdatesBy text_cmp (text_cmp id) old new value → SetsText old new id value
-sets_text old new id value updates = let r = sets_by text_cmp nat_list_cmp_total exact_bytes old new id value updates in record { this = r.0; others = r.1 }
+module _ {K X S : Type 0} (eq : K → K → Bool) (same : (a b : K) → eq a b ≡ true → a ≡ b) where
+  -- an update of a hash map whose test tells all keys apart
+  pub sets_map : (old new : IndexMap K X S) (key : K) (value : Option X) → Updates eq old new key value → SetsAt (λ k. get eq old k) (λ k. get eq new k) key value
+  sets_map old new key value updates = record {
+    this = updates.1;
+    others = λ k. by k (eq key k) refl;
+  }
+    where
+      by : (k : K) (b : Bool) → eq key k ≡ b → (k ≡ key) ⊎ (get eq new k ≡ get eq old k)
+      by k true tied = inl (sym (same key k tied))
+      by k false tied = inr (updates.2 k tied)
 
-keys_exact : CmpEqualImpliesEq key_cmp
-keys_exact a b h = ap (λ (p : List ℕ × (List ℕ × (List ℕ × List ℕ))). record { sub = p.0; type_name = p.1.0; rep = p.1.1.0; sel = p.1.1.1 }) (exact_pairs text_cmp (λ x y. ordering_then (text_cmp x.0 y.0) (ordering_then (text_cmp x.1.0 y.1.0) (text_cmp x.1.1 y.1.1))) exact_bytes (exact_pairs text_cmp (λ x y. ordering_then (text_cmp x.0 y.0) (text_cmp x.1 y.1)) exact_bytes (exact_pairs text_cmp text_cmp exact_bytes exact_bytes)) (a.sub, (a.type_name, (a.rep, a.sel))) (b.sub, (b.type_name, (b.rep, b.sel))) h)
+-- a hash map that is the same, updated at a key that is the same
+pub updates_from : {K X S : Type 0} (eq : K → K → Bool) (a b new : IndexMap K X S) (j k : K) (value : Option X) → a ≡ b → j ≡ k → Updates eq a new j value → Updates eq b new k value
+updates_from eq a b new j k value same_map same_key updates = subst (λ m. Updates eq m new k value) same_map (subst (λ q. Updates eq a new q value) same_key updates)
+
+-- equal bytes are one text
+pub texts_exact : (a b : List ℕ) → bytes_eq a b ≡ true → a ≡ b
+texts_exact a b = (bytes_decides a b).0
+
+-- equal texts are one key
+keys_exact : (a b : Key) → key_eq a b ≡ true → a ≡ b
+keys_exact a b h =
+    let first = texts_exact a.sub b.sub (first_so _ _ h) in
+    let past_first : (bytes_eq a.type_name b.type_name && (bytes_eq a.rep b.rep && bytes_eq a.sel b.sel)) ≡ true = second_so (bytes_eq a.sub b.sub) _ h in
+    let second = texts_exact a.type_name b.type_name (first_so _ _ past_first) in
+    let past_second : (bytes_eq a.rep b.rep && bytes_eq a.sel b.sel) ≡ true = second_so (bytes_eq a.type_name b.type_name) _ past_first in
+    let third = texts_exact a.rep b.rep (first_so _ _ past_second) in
+    let fourth = texts_exact a.sel b.sel (second_so (bytes_eq a.rep b.rep) _ past_second) in
+    λ i. record { sub = first i; type_name = second i; rep = third i; sel = fourth i }
+
+pub sets_text : (old new : tree.BTreeMap (List ℕ) ℕ) (id : List ℕ) (value : Option ℕ) → tree.Updates text_cmp old new id value → SetsText old new id value
+sets_text old new id value updates =
+    let set = sets_tree text_cmp nat_list_cmp_total exact_bytes old new id value updates in
+    record {
+      this = set.this;
+      others = λ other apart. elim (set.others other) [ inl e ↦ absurd (apart e) | inr s ↦ s ];
+    }
+
+sets_slot : (old new : KeyIndex) (key : Key) (value : Option Slot) → Updates key_eq old.slots new.slots key value → SetsAt (λ k. get key_eq old.slots k) (λ k. get key_eq new.slots k) key value
+sets_slot old new key value updates = sets_map key_eq keys_exact old.slots new.slots key value updates
 
 -- the key's slot is new: in the scope it has the value, and else what the old one has
-pub sets_key : (old new : KeyIndex) (key : Key) (scope : Option (List ℕ)) (value : Option ℕ) (slot : Slot) → tree.UpdatesBy key_cmp (key_cmp key) old.slots new.slots (Some slot)
+pub sets_key : (old new : KeyIndex) (key : Key) (scope : Option (List ℕ)) (value : Option ℕ) (slot : Slot) → Updates key_eq old.slots new.slots key (Some slot)
     → in_slot slot scope ≡ value → ((other : Option (List ℕ)) → (other ≡ scope → ⊥) → in_slot slot other ≡ position_at old key other) → SetsKey old new key scope value
 sets_key old new key scope value slot updates this others = record {
-  this = ap (option_and_then (λ s. in_slot s scope)) r.0 ∙ this;
-  others = λ k s apart. by k s apart (is_eq (key_cmp key k)) refl;
+  this = at scope ∙ this;
+  others = λ k s apart. elim (set.others k) [ inl one ↦ there k s one (λ e. apart (one, e)) | inr same ↦ ap (option_and_then (λ x. in_slot x s)) same ];
 }
   where
-    r : (tree.get key_cmp new.slots key ≡ Some slot) × ((other : Key) → (other ≡ key → ⊥) → tree.get key_cmp new.slots other ≡ tree.get key_cmp old.slots other)
-    r = sets_by key_cmp keys_total keys_exact old.slots new.slots key (Some slot) updates
+    set : SetsAt (λ k. get key_eq old.slots k) (λ k. get key_eq new.slots k) key (Some slot)
+    set = sets_slot old new key (Some slot) updates
 
-    by : (k : Key) (s : Option (List ℕ)) → (((k ≡ key) × (s ≡ scope)) → ⊥) → (b : Bool) → is_eq (key_cmp key k) ≡ b → position_at new k s ≡ position_at old k s
-    by k s apart true tied =
-        let same : k ≡ key = sym (keys_exact key k (equal (key_cmp key k) tied)) in
-        ap (λ (q : Key). position_at new q s) same ∙ ap (option_and_then (λ x. in_slot x s)) r.0 ∙ others s (λ e. apart (same, e)) ∙ ap (λ (q : Key). position_at old q s) (sym same)
-    by k s apart false tied = ap (option_and_then (λ x. in_slot x s)) (updates.2 k tied)
+    at : (s : Option (List ℕ)) → position_at new key s ≡ in_slot slot s
+    at s = ap (option_and_then (λ x. in_slot x s)) set.this
+
+    there : (k : Key) (s : Option (List ℕ)) → k ≡ key → (s ≡ scope → ⊥) → position_at new k s ≡ position_at old k s
+    there k s one apart = ap (λ (q : Key). position_at new q s) one ∙ at s ∙ others s apart ∙ ap (λ (q : Key). position_at old q s) (sym one)
+
+-- what has the same positions at the key, and elsewhere the same slots
+same_where : (old new : KeyIndex) (key : Key) (value : Option Slot) → Updates key_eq old.slots new.slots key value
+    → ((s : Option (List ℕ)) → option_and_then (λ x. in_slot x s) value ≡ position_at old key s) → HasSame old new
+same_where old new key value updates same k s = elim (set.others k) [ inl one ↦ there one | inr e ↦ ap (option_and_then (λ x. in_slot x s)) e ]
+  where
+    set : SetsAt (λ q. get key_eq old.slots q) (λ q. get key_eq new.slots q) key value
+    set = sets_slot old new key value updates
+
+    there : k ≡ key → position_at new k s ≡ position_at old k s
+    there one = ap (λ (q : Key). position_at new q s) one ∙ ap (option_and_then (λ x. in_slot x s)) set.this ∙ same s ∙ ap (λ (q : Key). position_at old q s) (sym one)
 
 -- the key's slot has the same positions
-pub same_key : (old new : KeyIndex) (key : Key) (slot : Slot) → tree.UpdatesBy key_cmp (key_cmp key) old.slots new.slots (Some slot)
+pub same_key : (old new : KeyIndex) (key : Key) (slot : Slot) → Updates key_eq old.slots new.slots key (Some slot)
     → ((other : Option (List ℕ)) → in_slot slot other ≡ position_at old key other) → HasSame old new
-same_key old new key slot updates same k s = by (is_eq (key_cmp key k)) refl
-  where
-    r : (tree.get key_cmp new.slots key ≡ Some slot) × ((other : Key) → (other ≡ key → ⊥) → tree.get key_cmp new.slots other ≡ tree.get key_cmp old.slots other)
-    r = sets_by key_cmp keys_total keys_exact old.slots new.slots key (Some slot) updates
-
-    by : (b : Bool) → is_eq (key_cmp key k) ≡ b → position_at new k s ≡ position_at old k s
-    by true tied =
-        let one : k ≡ key = sym (keys_exact key k (equal (key_cmp key k) tied)) in
-        ap (λ (q : Key). position_at new q s) one ∙ ap (option_and_then (λ x. in_slot x s)) r.0 ∙ same s ∙ ap (λ (q : Key). position_at old q s) (sym one)
-    by false tied = ap (option_and_then (λ x. in_slot x s)) (updates.2 k tied)
+same_key old new key slot updates same = same_where old new key (Some slot) updates same
 
 -- a vacant slot that is taken out changes no position
-pub gone_key : (old mid new : KeyIndex) (key : Key) (slot : Slot) → tree.UpdatesBy key_cmp (key_cmp key) old.slots mid.slots (Some slot) → tree.UpdatesBy key_cmp (key_cmp key) mid.slots new.slots None → IsVacant slot → HasSame mid new
-gone_key old mid new key slot first updates vacant k s = by (is_eq (key_cmp key k)) refl
-  where
-    there : tree.get key_cmp mid.slots key ≡ Some slot
-    there = (sets_by key_cmp keys_total keys_exact old.slots mid.slots key (Some slot) first).0
-
-    gone : tree.get key_cmp new.slots key ≡ None
-    gone = (sets_by key_cmp keys_total keys_exact mid.slots new.slots key None updates).0
-
-    by : (b : Bool) → is_eq (key_cmp key k) ≡ b → position_at new k s ≡ position_at mid k s
-    by true tied =
-        let one : k ≡ key = sym (keys_exact key k (equal (key_cmp key k) tied)) in
-        ap (λ (q : Key). position_at new q s) one ∙ ap (option_and_then (λ x. in_slot x s)) gone ∙ sym (ap (λ (q : Key). position_at mid q s) one ∙ ap (option_and_then (λ x. in_slot x s)) there ∙ vacant s)
-    by false tied = ap (option_and_then (λ x. in_slot x s)) (updates.2 k tied)
+pub gone_key : (old mid new : KeyIndex) (key : Key) (slot : Slot) → Updates key_eq old.slots mid.slots key (Some slot) → Updates key_eq mid.slots new.slots key None → IsVacant slot → HasSame mid new
+gone_key old mid new key slot first updates vacant =
+    same_where mid new key None updates (λ s. sym (ap (option_and_then (λ x. in_slot x s)) (sets_slot old mid key (Some slot) first).this ∙ vacant s))
 
 -- a slot of which nothing is set has no position
 pub empty_slot : (private : tree.BTreeMap (List ℕ) ℕ) → tree.IsEmpty private → (scope : Option (List ℕ)) → in_slot (record { public = None; private = private }) scope ≡ None
 empty_slot private none None = refl
 empty_slot private none (Some id) = search rules
-
--- where f sees no difference at the key, it sees none at all
-pub sees_same : {K X Y : Type 0} (R : K → K → Ordering) (o : IsTotalOrder R) (same : CmpEqualImpliesEq R) (f : Option X → Y) (old new : tree.BTreeMap K X) (key : K) (value : Option X) → tree.UpdatesBy R (R key) old new value
-    → f value ≡ f (tree.get R old key) → (other : K) → f (tree.get R new other) ≡ f (tree.get R old other)
-sees_same R o same f old new key value updates e other = by (is_eq (R key other)) refl (sets_by R o same old new key value updates).0
-  where
-    by : (b : Bool) → is_eq (R key other) ≡ b → tree.get R new key ≡ value → f (tree.get R new other) ≡ f (tree.get R old other)
-    by true tied this =
-        let one : key ≡ other = same key other (equal (R key other) tied) in
-        ap (λ q. f (tree.get R new q)) (sym one) ∙ ap f this ∙ e ∙ ap (λ q. f (tree.get R old q)) one
-    by false tied this = ap f (updates.2 other tied)

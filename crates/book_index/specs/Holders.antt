@@ -2,14 +2,16 @@
 use Rattle.std.specs.Prelude.{◌≡◌, ℕ, Bool, nat_eq, List, [], Contains}
 use Rattle.std.specs.List.{list_any}
 use Rattle.std.specs.Option.{option_map_or}
+use Rattle.std.specs.Str.{bytes_eq}
 use Rattle.std.specs.BTreeMap as tree
+use Rattle.indexmap.specs.IndexMap.{get}
 use Rattle.book_index.specs.Positions.{text_cmp}
 use Rattle.book_index.specs.declared.holders.Holders.{Holders}
 use Rattle.book_index.specs.declared.subgraph_holders.SubgraphHolders.{SubgraphHolders}
 
 -- the positions under a name
 abbrev pub holders_of : Holders → List ℕ → List ℕ
-holders_of holders name = option_map_or (λ set. set.keys) (tree.get text_cmp holders.sets name) []
+holders_of holders name = option_map_or (λ set. set.keys) (get bytes_eq holders.sets name) []
 
 -- whether the position is under the name
 abbrev pub is_holder : Holders → List ℕ → ℕ → Bool

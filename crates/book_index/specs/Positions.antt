@@ -1,10 +1,12 @@
 -- Positions by key and scope.
-use Rattle.std.specs.Prelude.{◌≡◌, ℕ, List, Option, Some, None}
+use Rattle.std.specs.Prelude.{◌≡◌, ℕ, Bool, ◌&&◌, List, Option, Some, None}
 use Rattle.std.specs.Option.{option_and_then}
-use Rattle.std.specs.Ordering.{nat_cmp, ordering_then}
+use Rattle.std.specs.Ordering.{nat_cmp}
 use Rattle.std.specs.declared.cmp.Ordering.{Ordering}
 use Rattle.std.specs.Cmp.Lexicographic.{slice_cmp}
+use Rattle.std.specs.Str.{bytes_eq}
 use Rattle.std.specs.BTreeMap as tree
+use Rattle.indexmap.specs.IndexMap.{get}
 use Rattle.cache_terms.specs.declared.keys.Key.{Key}
 use Rattle.book_index.specs.declared.key_index.Slot.{Slot}
 use Rattle.book_index.specs.declared.key_index.KeyIndex.{KeyIndex}
@@ -12,9 +14,9 @@ use Rattle.book_index.specs.declared.key_index.KeyIndex.{KeyIndex}
 abbrev pub text_cmp : List ℕ → List ℕ → Ordering
 text_cmp a b = slice_cmp nat_cmp a b
 
--- by subgraph, type, representation and selection
-abbrev pub key_cmp : Key → Key → Ordering
-key_cmp a b = ordering_then (text_cmp a.sub b.sub) (ordering_then (text_cmp a.type_name b.type_name) (ordering_then (text_cmp a.rep b.rep) (text_cmp a.sel b.sel)))
+-- whether both have the same subgraph, type, representation and selection
+abbrev pub key_eq : Key → Key → Bool
+key_eq a b = bytes_eq a.sub b.sub && (bytes_eq a.type_name b.type_name && (bytes_eq a.rep b.rep && bytes_eq a.sel b.sel))
 
 -- the position of a scope. The scope None is public, and Some id is private to that id
 abbrev pub in_slot : Slot → Option (List ℕ) → Option ℕ
@@ -23,7 +25,7 @@ in_slot slot (Some id) = tree.get text_cmp slot.private id
 
 -- the position of a key and scope
 abbrev pub position_at : KeyIndex → Key → Option (List ℕ) → Option ℕ
-position_at index key scope = option_and_then (λ slot. in_slot slot scope) (tree.get key_cmp index.slots key)
+position_at index key scope = option_and_then (λ slot. in_slot slot scope) (get key_eq index.slots key)
 
 -- new has the value for the id, and for each other id what old has
 pub record SetsText (old new : tree.BTreeMap (List ℕ) ℕ) (id : List ℕ) (value : Option ℕ) : Type 0 where

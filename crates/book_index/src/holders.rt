@@ -3,15 +3,15 @@ ghost use Rattle.std.specs.List.{IsDistinct};
 ghost use Rattle.book_index.specs.Holders.{holders_of, is_holder, SetsHolder, HasSameHolders, HasNoHolders};
 
 use flow_base::{Memory, Text};
-use indexmap::IndexSet;
+use indexmap::{IndexMap, IndexSet};
 use std::alloc::Global;
-use std::collections::BTreeMap;
 
-/// Positions by name, each name's once each and in no order.
+/// Positions by name, each name's once each and in no order. The names are hashed, since there may
+/// be many.
 #[derive(Drop)]
 pub struct Holders {
     alloc: Global,
-    sets: BTreeMap<Text, IndexSet<u64>>,
+    sets: IndexMap<Text, IndexSet<u64>>,
 }
 
 impl Holders {
@@ -21,7 +21,7 @@ impl Holders {
     {
         Holders {
             alloc,
-            sets: BTreeMap::new(alloc),
+            sets: IndexMap::new(alloc),
         }
     }
 
@@ -67,7 +67,7 @@ impl Holders {
         if let Some(set) = self.sets.get_mut(name) {
             set.swap_remove(&position);
             if set.is_empty() {
-                self.sets.remove(name);
+                self.sets.swap_remove(name);
             }
         }
     }

@@ -7,6 +7,7 @@ ghost use Rattle.book_index.specs.Positions.{SetsText, SetsScope, SetsKey, PutsK
 
 use cache_terms::Key;
 use flow_base::{Memory, Text};
+use indexmap::IndexMap;
 use std::alloc::Global;
 use std::collections::BTreeMap;
 
@@ -17,11 +18,13 @@ pub struct Slot {
     private: BTreeMap<Text, u64>,
 }
 
-/// A position for each key and scope. An id of None stands for the public scope.
+/// A position for each key and scope. An id of None stands for the public scope. The keys are
+/// hashed, since to find a long key by its order takes more comparisons the more keys there are.
+/// The ids of one key are few, so they need no hash.
 #[derive(Drop)]
 pub struct KeyIndex {
     alloc: Global,
-    slots: BTreeMap<Key, Slot>,
+    slots: IndexMap<Key, Slot>,
 }
 
 impl KeyIndex {
@@ -31,7 +34,7 @@ impl KeyIndex {
     {
         KeyIndex {
             alloc,
-            slots: BTreeMap::new(alloc),
+            slots: IndexMap::new(alloc),
         }
     }
 
@@ -84,7 +87,7 @@ impl KeyIndex {
             if !is_vacant(slot) {
                 return before;
             }
-            self.slots.remove(key);
+            self.slots.swap_remove(key);
             return before;
         }
         None
