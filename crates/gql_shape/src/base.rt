@@ -2,12 +2,12 @@
 
 ghost use Rattle.std.specs.Prelude.{◌≡◌};
 ghost use Rattle.json_value.specs.declared.tree.Json.{out-Json};
-ghost use Rattle.gql_leaves.specs.Leaves as leaves;
 ghost use Rattle.gql_types.specs.Schemas as schemas;
 ghost use Rattle.gql_shape.specs.Completing as completing;
 ghost use Rattle.gql_shape.specs.Kept as spec;
 
 use flow_base::Text;
+use gql_leaves::{enum_fits, is_bool, is_integer, is_number, is_string};
 use gql_terms::TypeRef;
 use gql_types::{Kind, Schema};
 use json_value::Json;
@@ -84,53 +84,6 @@ pub fn is_composite(base: Base) -> bool
     matches!(base, Base::Composite)
 }
 
-fn has_fraction(text: &[u8]) -> bool
-    ensures { result ≡ leaves.has_fraction text.now }
-{
-    for i in 0..text.len() {
-        if text[i] == b'.' || text[i] == b'e' || text[i] == b'E' {
-            return true;
-        }
-    }
-    false
-}
-
-fn is_integer(value: &Json) -> bool
-    ensures { result ≡ leaves.is_integer (out-Json value.now) }
-{
-    match value {
-        Json::Number(text) => !has_fraction(text.as_str().as_bytes()),
-        _ => false,
-    }
-}
-
-fn is_number(value: &Json) -> bool
-    ensures { result ≡ leaves.is_number (out-Json value.now) }
-{
-    matches!(value, Json::Number(_))
-}
-
-fn is_string(value: &Json) -> bool
-    ensures { result ≡ leaves.is_string (out-Json value.now) }
-{
-    matches!(value, Json::Str(_))
-}
-
-fn is_bool(value: &Json) -> bool
-    ensures { result ≡ leaves.is_bool (out-Json value.now) }
-{
-    matches!(value, Json::Bool(_))
-}
-
-fn is_enum_value(schema: &Schema, name: &Text, value: &Json) -> bool
-    ensures { result ≡ leaves.enum_fits schema.now name.now (out-Json value.now) }
-{
-    match value {
-        Json::Str(text) => schema.has_value(name, text),
-        _ => false,
-    }
-}
-
 /// Whether the value is one of the scalar or enum with this name, which stands for this. Only an enum is looked up.
 pub fn base_fits(schema: &Schema, name: &Text, base: Base, value: &Json) -> bool
     ensures { result ≡ spec.base_fits schema.now name.now (out-Json value.now) base }
@@ -142,7 +95,7 @@ pub fn base_fits(schema: &Schema, name: &Text, base: Base, value: &Json) -> bool
         Base::Bool => is_bool(value),
         Base::Id => is_string(value) || is_integer(value),
         Base::Custom => true,
-        Base::Enum => is_enum_value(schema, name, value),
+        Base::Enum => enum_fits(schema, name, value),
         _ => false,
     }
 }
