@@ -8,4 +8,4 @@ mod scan;
 
 pub use choose::chosen;
 pub use due::outcome_of;
-pub use scan::{StartRef, bytes_of, count_held, reserved_of, start_of, starts_of};
+pub use scan::{StartRef, bytes_of, count_held, is_settled, reserved_of, start_of, starts_of};
