@@ -8,24 +8,25 @@ use Rattle.std.proofs.lemmas.Bool.{cond-true, cond-false, and_from, eq-eqb, ne_e
 use Rattle.json_value.specs.declared.fault.JsonFault.{JsonFault}
 use Rattle.json_value.specs.declared.fault.JsonFault.TheVariants as faults
 use Rattle.json_value.specs.Strings.{within, is_plain, is_tail, short, hex_digit, is_high, is_low, join, four_digits}
-use Rattle.json_read.specs.declared.string.Tail.{Tail}
-use Rattle.json_read.specs.declared.string.Tail.TheVariants as tails
-use Rattle.json_read.specs.Refusal.{Refusal}
-use Rattle.json_read.specs.Refusal as e
-use Rattle.json_read.specs.Part.{Part}
-use Rattle.json_read.specs.Part as p
-use Rattle.json_read.specs.Quad.{Quad}
-use Rattle.json_read.specs.Quad as q
-use Rattle.json_read.specs.Grown.{Grown}
-use Rattle.json_read.specs.Grown as g
-use Rattle.json_read.specs.Progress as s
-use Rattle.json_read.specs.Left.{TextLeft}
-use Rattle.json_read.specs.Scan.{Scanned, Unescaped, none, one, lead, scan, wide_by, plain_scan, short_by, escape_scan, unit_scan, grow, hex_by, hex_grown, hex_scan, may_be_low, pair_scan, low_grown, low_by, low_scan, wide_next, wide_scan, tail_low, tail_high, slash_scan, letter_scan}
-use Rattle.json_read.specs.Reading.{Reading, Closed, reading, reading_by, text_from, Fails, cut, ReadsRun, ReadsWide, ReadsTail, ReadsEscape, ReadsDigit, ReadsUnit, ReadsLow, ReadsByte, ReadsPair, ReadsText}
-use Rattle.json_read.proofs.TextsGo.{digit_steps}
-use Rattle.json_read.proofs.Utf8.{plain_holds, more_holds, done_holds, digit_small, short_ascii}
-use Rattle.json_read.proofs.PlainRuns.{lead_scans, wide_scans, all_unescaped, two_begun, three_begun, four_begun}
-use Rattle.json_read.proofs.Steps.{here, cut_none, cut_one, cut_join, scans, scan_done, scan_fails, scan_ends, unescaped_on}
+use Rattle.json_machine.specs.declared.begun.Tail.{Tail}
+use Rattle.json_machine.specs.declared.begun.Tail.TheVariants as tails
+use Rattle.json_machine.specs.Refusal.{Refusal}
+use Rattle.json_machine.specs.Refusal as e
+use Rattle.json_machine.specs.Part.{Part}
+use Rattle.json_machine.specs.Part as p
+use Rattle.json_machine.specs.Quad.{Quad}
+use Rattle.json_machine.specs.Quad as q
+use Rattle.json_machine.specs.Grown.{Grown}
+use Rattle.json_machine.specs.Grown as g
+use Rattle.json_machine.specs.Progress as s
+use Rattle.json_machine.specs.Left.{TextLeft}
+use Rattle.json_machine.specs.Scan.{Scanned, Unescaped, none, one, lead, scan, wide_by, plain_scan, short_by, escape_scan, unit_scan, grow, hex_by, hex_grown, hex_scan, may_be_low, pair_scan, low_grown, low_by, low_scan, wide_next, wide_scan, tail_low, tail_high, slash_scan, letter_scan}
+use Rattle.json_machine.specs.Onward.{Reading, Closed, reading, reading_by, text_from, cut}
+use Rattle.json_read.specs.Reading.{Fails, ReadsRun, ReadsWide, ReadsTail, ReadsEscape, ReadsDigit, ReadsUnit, ReadsLow, ReadsByte, ReadsPair, ReadsText}
+use Rattle.json_machine.proofs.TextsGo.{digit_steps}
+use Rattle.json_machine.proofs.Utf8.{plain_holds, more_holds, done_holds, digit_small, short_ascii}
+use Rattle.json_machine.proofs.PlainRuns.{lead_scans, wide_scans, all_unescaped, two_begun, three_begun, four_begun}
+use Rattle.json_machine.proofs.Steps.{here, cut_none, cut_one, cut_join, scans, scan_done, scan_fails, scan_ends, unescaped_on}
 
 pub fails_at : (x y : Reading) (fault : JsonFault) → x ≡ y → Fails y fault → Fails x fault
 fails_at x y fault is h = subst (λ (r : Reading). Fails r fault) (sym is) h

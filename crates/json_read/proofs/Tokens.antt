@@ -7,18 +7,19 @@ use Rattle.json_value.specs.declared.tree.Json.TheVariants as j
 use Rattle.json_value.specs.declared.fault.JsonFault.TheVariants as faults
 use Rattle.json_value.specs.Grammar.{strict, is_blank}
 use Rattle.exact_read.specs.Steps.{run, on_step}
-use Rattle.json_read.specs.declared.words.Word.{Word}
-use Rattle.json_read.specs.declared.number.Digit.{Digit}
-use Rattle.json_read.specs.Refusal as e
-use Rattle.json_read.specs.Mode.{Mode}
-use Rattle.json_read.specs.Mode as m
-use Rattle.json_read.specs.Numbers.{number_start, number_next, may_end}
-use Rattle.json_read.specs.Left.{CompletesNumber}
-use Rattle.json_read.specs.Machine.{Frames, to, step, letters, meant, word_step, number_go, number_step, value_step, finish_by, number_end}
-use Rattle.json_read.specs.Reading.{Skips, read_from, ReadsOn, Anywhere, worded, NumberFollows, cut}
-use Rattle.json_read.proofs.Complete.{number_begins, number_not_blank}
-use Rattle.json_read.proofs.Utf8.{number_holds}
-use Rattle.json_read.proofs.Steps.{steps, same_step, refuses, ends, cut_none, cut_one, cut_join, runs_on}
+use Rattle.json_machine.specs.declared.begun.Word.{Word}
+use Rattle.json_machine.specs.declared.begun.Digit.{Digit}
+use Rattle.json_machine.specs.Refusal as e
+use Rattle.json_machine.specs.Mode.{Mode}
+use Rattle.json_machine.specs.Mode as m
+use Rattle.json_machine.specs.Numbers.{number_start, number_next, may_end}
+use Rattle.json_machine.specs.Left.{CompletesNumber}
+use Rattle.json_machine.specs.Machine.{Frames, to, step, letters, meant, word_step, number_go, number_step, value_step, finish_by, number_end}
+use Rattle.json_machine.specs.Onward.{Skips, read_from, cut}
+use Rattle.json_read.specs.Reading.{ReadsOn, Anywhere, worded, NumberFollows}
+use Rattle.json_machine.proofs.Complete.{number_begins, number_not_blank}
+use Rattle.json_machine.proofs.Utf8.{number_holds}
+use Rattle.json_machine.proofs.Steps.{steps, same_step, refuses, ends, cut_none, cut_one, cut_join, runs_on}
 
 -- blanks
 abbrev pub Blank : List ℕ → ℕ → ℕ → Type 0

@@ -7,21 +7,22 @@ use Rattle.json_value.specs.declared.tree.Json.TheVariants as j
 use Rattle.json_value.specs.declared.fault.JsonFault.{JsonFault}
 use Rattle.json_value.specs.declared.fault.JsonFault.TheVariants as faults
 use Rattle.json_value.specs.Grammar.{strict, is_blank, has}
-use Rattle.json_read.specs.declared.words.Word.TheVariants as w
-use Rattle.json_read.specs.Refusal as e
-use Rattle.json_read.specs.Part.{Part}
-use Rattle.json_read.specs.Part as p
-use Rattle.json_read.specs.Frame.{Frame}
-use Rattle.json_read.specs.Frame as f
-use Rattle.json_read.specs.Mode.{Mode}
-use Rattle.json_read.specs.Mode as m
-use Rattle.json_read.specs.Numbers.{number_start}
-use Rattle.json_read.specs.Machine.{Frames, Pairs, to, step, whole, finish, number_by, open_by, begin, value_step, first_step, after_step, first_name_step, next_name_step, named, colon_step, read_of, Reads}
-use Rattle.json_read.specs.Reading.{read_from, ReadsOn, Anywhere, HasRoom, ReadsName, ClosedBy, ReadsMark, Reading, Open, Closed, Failed, text_from, Fails, ReadsText}
-use Rattle.json_read.proofs.PlainRuns.{str_after, str_run, name_after, name_run}
-use Rattle.json_read.proofs.Steps.{steps, same_step, refuses, ends}
+use Rattle.json_machine.specs.declared.begun.Word.TheVariants as w
+use Rattle.json_machine.specs.Refusal as e
+use Rattle.json_machine.specs.Part.{Part}
+use Rattle.json_machine.specs.Part as p
+use Rattle.json_machine.specs.Frame.{Frame}
+use Rattle.json_machine.specs.Frame as f
+use Rattle.json_machine.specs.Mode.{Mode}
+use Rattle.json_machine.specs.Mode as m
+use Rattle.json_machine.specs.Numbers.{number_start}
+use Rattle.json_machine.specs.Machine.{Frames, Pairs, to, step, whole, finish, number_by, open_by, begin, value_step, first_step, after_step, first_name_step, next_name_step, named, colon_step, read_of, Reads}
+use Rattle.json_machine.specs.Onward.{read_from, Reading, Open, Closed, Failed, text_from}
+use Rattle.json_read.specs.Reading.{ReadsOn, Anywhere, HasRoom, ReadsName, ClosedBy, ReadsMark, Fails, ReadsText}
+use Rattle.json_machine.proofs.PlainRuns.{str_after, str_run, name_after, name_run}
+use Rattle.json_machine.proofs.Steps.{steps, same_step, refuses, ends}
 use Rattle.json_read.proofs.Tokens.{Blank}
-use Rattle.json_read.proofs.Skips.{first_skips, after_skips, first_name_skips, next_name_skips, colon_skips}
+use Rattle.json_machine.proofs.Skips.{first_skips, after_skips, first_name_skips, next_name_skips, colon_skips}
 
 -- ---- composing
 

@@ -1,14 +1,4 @@
-pub mod Faults
-pub mod Frame
-pub mod Grown
-pub mod Left
-pub mod Machine
-pub mod Mode
-pub mod Numbers
-pub mod Part
-pub mod Progress
-pub mod Quad
+pub use Rattle.json_machine.specs.OneValue
+pub use Rattle.json_faults.specs.Faults
+pub use Rattle.json_faults.specs.OneFault
 pub mod Reading
-pub mod Refusal
-pub mod Scan
-pub mod Unique

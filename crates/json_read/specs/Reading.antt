@@ -1,37 +1,27 @@
--- What reading on from a place comes to, and what each function of the reader ensures of it: that reading on from a
--- later place comes to the same, or what the fault is.
-use Rattle.std.specs.Prelude.{◌≡◌, ◌≢◌, ◌≤◌, ◌<◌, ◌+◌, ◌-◌, ◌==◌, ◌||◌, ℕ, Bool, true, false, nat_lt, if◌then◌else◌, List, [], ◌∷◌, ◌++◌, length, take, drop, slice_index, Some, Result, Ok, Err, encode_utf8, ◌⊎◌}
+-- What each function of the reader ensures of reading on from a place: that reading on from a later place comes to the
+-- same, or what the fault is.
+use Rattle.std.specs.Prelude.{◌≡◌, ◌≢◌, ◌≤◌, ◌<◌, ◌+◌, ◌==◌, ◌||◌, ℕ, Bool, true, false, nat_lt, if◌then◌else◌, List, [], ◌∷◌, ◌++◌, length, drop, slice_index, Some, Result, Ok, Err, encode_utf8, ◌⊎◌}
 use Rattle.json_value.specs.declared.fault.JsonFault.{JsonFault}
 use Rattle.json_value.specs.declared.fault.JsonFault.TheVariants as faults
 use Rattle.json_value.specs.declared.tree.Json.{Json}
-use Rattle.json_value.specs.Grammar.{strict, is_blank}
 use Rattle.json_value.specs.Strings.{within, hex_digit, is_high, is_low, join}
-use Rattle.exact_read.specs.Steps.{run}
-use Rattle.json_read.specs.declared.number.Digit.{Digit}
-use Rattle.json_read.specs.declared.words.Word.{Word}
-use Rattle.json_read.specs.declared.string.Tail.{Tail}
-use Rattle.json_read.specs.Refusal.{Refusal}
-use Rattle.json_read.specs.Refusal as e
-use Rattle.json_read.specs.Part.{Part}
-use Rattle.json_read.specs.Part as p
-use Rattle.json_read.specs.Quad.{Quad}
-use Rattle.json_read.specs.Quad as q
-use Rattle.json_read.specs.Progress as s
-use Rattle.json_read.specs.Frame.{Frame}
-use Rattle.json_read.specs.Frame as f
-use Rattle.json_read.specs.Mode.{Mode}
-use Rattle.json_read.specs.Mode as m
-use Rattle.json_read.specs.Numbers.{number_next}
-use Rattle.json_read.specs.Scan.{Scanned, scan, unit_scan, Unescaped, tail_low, tail_high}
-use Rattle.json_read.specs.Machine.{Frames, Pairs, step, whole, placed, after_by, letters, meant}
-
--- what the bytes from a place on come to, in this mode and with these frames
-unfoldable pub read_from : List ℕ → ℕ → Mode → Frames → Result Json JsonFault
-read_from bytes at mode frames = whole (run (step strict) (drop at bytes) at (record { mode = mode; frames = frames }))
-
--- blanks leave the mode
-abbrev pub Skips : Mode → Type 0
-Skips mode = (at b : ℕ) (fs : Frames) → is_blank b ≡ true → step strict at (record { mode = mode; frames = fs }) b ≡ Ok (record { mode = mode; frames = fs })
+use Rattle.json_machine.specs.declared.begun.Digit.{Digit}
+use Rattle.json_machine.specs.declared.begun.Word.{Word}
+use Rattle.json_machine.specs.declared.begun.Tail.{Tail}
+use Rattle.json_machine.specs.Refusal as e
+use Rattle.json_machine.specs.Part.{Part}
+use Rattle.json_machine.specs.Part as p
+use Rattle.json_machine.specs.Quad.{Quad}
+use Rattle.json_machine.specs.Quad as q
+use Rattle.json_machine.specs.Frame.{Frame}
+use Rattle.json_machine.specs.Frame as f
+use Rattle.json_machine.specs.Mode.{Mode}
+use Rattle.json_machine.specs.Mode as m
+use Rattle.json_machine.specs.Numbers.{number_next}
+use Rattle.json_machine.specs.Scan.{unit_scan, Unescaped, tail_low, tail_high}
+use Rattle.json_machine.specs.Machine.{Frames, Pairs, placed, after_by, letters, meant}
+use Rattle.json_machine.specs.Onward.{read_from, cut, Reading, reading_by, text_from}
+use Rattle.json_machine.specs.Onward as o
 
 -- A value is read from the place through that one: where such frames are open, reading on from the place in this mode
 -- comes to what reading on from that one after the value comes to.
@@ -70,40 +60,16 @@ abbrev pub NumberFollows : Digit → List ℕ → Digit → Type 0
 NumberFollows part [] last = part ≡ last
 NumberFollows part (b ∷ bs) last = (next : Digit) × (number_next part b ≡ Some next) × NumberFollows next bs last
 
--- what reading on in a string comes to: all bytes are read, or the closing quote stands at this place before these bytes, or a byte is refused
-pub data Reading : Type 0 where
-  Open : Part → List ℕ → Reading
-  Closed : List ℕ → List ℕ → ℕ → Reading
-  Failed : Refusal → ℕ → Reading
-
--- after the step on one byte at the place
-abbrev pub reading_by : Scanned → ℕ → List ℕ → (Part → List ℕ → Reading) → Reading
-reading_by (Ok (s.More part text)) at bs onward = onward part text
-reading_by (Ok (s.Done text)) at bs onward = Closed text bs at
-reading_by (Err why) at bs onward = Failed why at
-
-unfoldable pub reading : List ℕ → ℕ → Part → List ℕ → Reading
-reading [] at part text = Open part text
-reading (b ∷ bs) at part text = reading_by (scan false at part text b) at bs (reading bs (at + 1))
-
--- what the bytes from a place on come to in a string
-unfoldable pub text_from : List ℕ → ℕ → Part → List ℕ → Reading
-text_from bytes at part text = reading (drop at bytes) at part text
-
 -- the fault of a string that is not read to its closing quote
 abbrev pub Fails : Reading → JsonFault → Type 0
-Fails (Open part text) fault = fault ≡ faults.Ended
-Fails (Closed text rest at) fault = ⊥
-Fails (Failed why at) fault = fault ≡ placed why at
+Fails (o.Open part text) fault = fault ≡ faults.Ended
+Fails (o.Closed text rest at) fault = ⊥
+Fails (o.Failed why at) fault = fault ≡ placed why at
 
 -- a text, and the place of its closing quote
 abbrev pub ReadsText : List ℕ → ℕ → Result (List ℕ × ℕ) JsonFault → Type 0
-ReadsText bytes at (Ok x) = (at ≤ x.1) × (x.1 < length bytes) × (text_from bytes at p.Plain [] ≡ Closed x.0 (drop (x.1 + 1) bytes) x.1)
+ReadsText bytes at (Ok x) = (at ≤ x.1) × (x.1 < length bytes) × (text_from bytes at p.Plain [] ≡ o.Closed x.0 (drop (x.1 + 1) bytes) x.1)
 ReadsText bytes at (Err fault) = fault ≢ faults.Memory → Fails (text_from bytes at p.Plain []) fault
-
--- the bytes from the one place to the other
-abbrev pub cut : List ℕ → ℕ → ℕ → List ℕ
-cut bytes at end = take (end - at) (drop at bytes)
 
 -- the end of the characters that stand for themselves: a quote or a backslash
 abbrev pub ReadsRun : List ℕ → ℕ → Result ℕ JsonFault → Type 0

@@ -2,9 +2,18 @@
 
 ghost use Rattle.std.specs.Prelude.{◌≡◌, [], ◌∷◌, ◌++◌, IfOk, OnOk, encode_utf8, IsUtf8};
 
-use flow_base::Text;
+use flow_base::{Memory, Text};
 use std::alloc::{AllocError, Global};
 use std::marker::Model;
+use std::str;
+
+/// A copy of the bytes as a text. What the clause requires is proved, so that the bytes need not be looked at again.
+pub fn text_of(alloc: Global, bytes: &[u8]) -> Result<Text, Memory>
+    requires { IsUtf8 bytes.now }
+    ensures { IfOk result (λ t. t ≡ bytes.now) }
+{
+    Text::of(alloc, unsafe { str::from_utf8_unchecked(bytes) })
+}
 
 /// Bytes that may end within a character.
 #[derive(Drop)]
@@ -21,15 +30,6 @@ impl Model for Buffer {
 }
 
 impl Buffer {
-    /// A copy of the bytes.
-    pub fn of(alloc: Global, bytes: &[u8]) -> Result<Buffer, AllocError>
-        ensures { IfOk result (λ b. b ≡ bytes.now) }
-    {
-        Ok(Buffer {
-            inner: Vec::from_slice(alloc, bytes)?,
-        })
-    }
-
     /// A copy of the bytes, with room for some more.
     pub fn begun(alloc: Global, bytes: &[u8]) -> Result<Buffer, AllocError>
         ensures { IfOk result (λ b. b ≡ bytes.now) }
@@ -69,13 +69,12 @@ impl Buffer {
         self.append(text.as_bytes())
     }
 
-    /// The same bytes as a text, taking no memory.
-    pub fn into_text(self) -> Text
+    /// The same bytes as a text.
+    pub fn into_text(self) -> Result<Text, Memory>
         requires { IsUtf8 self }
-        ensures { result ≡ self }
+        ensures { IfOk result (λ t. t ≡ self) }
     {
         let Buffer { inner } = self;
-        // What the clause requires is proved, so that the bytes need not be looked at again.
         Text::from_string(unsafe { String::from_utf8_unchecked(inner) })
     }
 }

@@ -3,8 +3,8 @@
 ghost use Rattle.std.specs.Prelude.{◌≡◌, ◌≢◌, ◌≤◌, ◌<◌, ◌+◌, ℕ, length, slice_index, true, Some};
 ghost use Rattle.std.specs.Char.{IsScalar};
 ghost use Rattle.json_value.specs.Strings as strings;
-ghost use Rattle.json_read.specs.Part as parts;
-ghost use Rattle.json_read.specs.Quad as quads;
+ghost use Rattle.json_machine.specs.Part as parts;
+ghost use Rattle.json_machine.specs.Quad as quads;
 ghost use Rattle.json_read.specs.Reading.{ReadsDigit, ReadsUnit, ReadsLow, ReadsByte, ReadsPair, ReadsEscape};
 
 use json_value::JsonFault;

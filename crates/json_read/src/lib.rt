@@ -3,7 +3,6 @@
 
 mod buffer;
 mod escape;
-mod laws;
 mod number;
 mod reader;
 mod string;
@@ -11,5 +10,6 @@ mod string;
 mod tests;
 mod words;
 
-pub use laws::{fault_is_one, text_has_one_value};
+pub use json_faults::fault_is_one;
+pub use json_machine::text_has_one_value;
 pub use reader::read;

@@ -1,26 +1,15 @@
 //! Numbers.
 
 ghost use Rattle.std.specs.Prelude.{◌≡◌, ◌≤◌, ◌<◌, ◌+◌, length, slice_index, Some, None};
-ghost use Rattle.json_read.specs.Numbers as spec;
-ghost use Rattle.json_read.specs.Mode as modes;
-ghost use Rattle.json_read.specs.Reading.{NumberFollows, ReadsOn, Anywhere, cut};
+ghost use Rattle.json_machine.specs.Numbers as spec;
+ghost use Rattle.json_machine.specs.Mode as modes;
+ghost use Rattle.json_machine.specs.Onward.{cut};
+ghost use Rattle.json_read.specs.Reading.{NumberFollows, ReadsOn, Anywhere};
 
-use crate::buffer::Buffer;
+use crate::buffer::text_of;
+use json_machine::Digit;
 use json_value::{Json, JsonFault};
 use std::alloc::Global;
-
-/// What was read last of a number.
-#[derive(Clone, Copy, Debug, PartialEq, Eq)]
-pub enum Digit {
-    Minus,
-    Zero,
-    Whole,
-    Dot,
-    Fraction,
-    E,
-    Sign,
-    Exponent,
-}
 
 pub fn number_start(byte: u8) -> Option<Digit>
     ensures { result ≡ spec.number_start byte }
@@ -92,8 +81,8 @@ pub fn number(
 {
     let (end, part) = number_run(bytes, at + 1, start);
     if may_end(part) {
-        let text = Buffer::of(alloc, &bytes[at..end])?;
-        return Ok((Json::Number(text.into_text()), end));
+        let text = text_of(alloc, &bytes[at..end])?;
+        return Ok((Json::Number(text), end));
     }
     if end < bytes.len() {
         return Err(JsonFault::Syntax(end as u64));

@@ -2,26 +2,20 @@
 
 ghost use Rattle.std.specs.Prelude.{◌≡◌, ◌≤◌, ◌<◌, ◌==◌, ◌||◌, ◌+◌, length, slice_index, true, false, Ok};
 ghost use Rattle.json_value.specs.Strings as strings;
-ghost use Rattle.json_read.specs.Scan as spec;
-ghost use Rattle.json_read.specs.Scan.{Unescaped};
-ghost use Rattle.json_read.specs.Reading.{cut, ReadsTail, ReadsWide, ReadsRun, ReadsText};
+ghost use Rattle.json_machine.specs.Scan as spec;
+ghost use Rattle.json_machine.specs.Scan.{Unescaped};
+ghost use Rattle.json_machine.specs.Onward.{cut};
+ghost use Rattle.json_read.specs.Reading.{ReadsTail, ReadsWide, ReadsRun, ReadsText};
 
-use crate::buffer::Buffer;
+use crate::buffer::{Buffer, text_of};
 use crate::escape::escaped;
 use flow_base::Text;
+use json_machine::Tail;
 use json_value::JsonFault;
 use std::alloc::Global;
 
 /// So many bytes are looked at together in a long text.
 const STRIDE: usize = 16;
-
-/// So many bytes of a sequence, and the bounds of the first of them.
-#[derive(Clone, Copy, Debug, PartialEq, Eq)]
-pub enum Tail {
-    One(u8, u8),
-    Two(u8, u8),
-    Three(u8, u8),
-}
 
 fn is_plain(byte: u8) -> bool
     ensures { result ≡ strings.is_plain byte }
@@ -173,7 +167,8 @@ fn with_escapes(
         text.append(&bytes[from..end])?;
         i = end;
     }
-    Ok((text.into_text(), i))
+    let whole = text.into_text()?;
+    Ok((whole, i))
 }
 
 /// The text of a string whose opening quote stands before this place, and the place of its closing quote.
@@ -185,6 +180,6 @@ pub fn string(alloc: Global, bytes: &[u8], at: usize) -> Result<(Text, usize), J
     if bytes[end] != b'"' {
         return with_escapes(alloc, bytes, at, end);
     }
-    let text = Buffer::of(alloc, &bytes[at..end])?;
-    Ok((text.into_text(), end))
+    let text = text_of(alloc, &bytes[at..end])?;
+    Ok((text, end))
 }

@@ -2,20 +2,15 @@
 
 ghost use Rattle.std.specs.Prelude.{◌≡◌, ◌≤◌, ◌<◌, length, slice_index, false};
 ghost use Rattle.json_value.specs.Grammar as grammar;
-ghost use Rattle.json_read.specs.Machine as spec;
-ghost use Rattle.json_read.specs.Machine.{Frames};
-ghost use Rattle.json_read.specs.Mode.{Mode};
-ghost use Rattle.json_read.specs.Mode as modes;
-ghost use Rattle.json_read.specs.Reading.{Skips, read_from, ReadsOn, Anywhere};
+ghost use Rattle.json_machine.specs.Machine as spec;
+ghost use Rattle.json_machine.specs.Machine.{Frames};
+ghost use Rattle.json_machine.specs.Mode.{Mode};
+ghost use Rattle.json_machine.specs.Mode as modes;
+ghost use Rattle.json_machine.specs.Onward.{Skips, read_from};
+ghost use Rattle.json_read.specs.Reading.{ReadsOn, Anywhere};
 
+use json_machine::Word;
 use json_value::{Json, JsonFault};
-
-#[derive(Clone, Copy, Debug, PartialEq, Eq)]
-pub enum Word {
-    Null,
-    True,
-    False,
-}
 
 fn is_blank(byte: u8) -> bool
     ensures { result ≡ grammar.is_blank byte }

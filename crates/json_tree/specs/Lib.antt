@@ -7,6 +7,7 @@ pub use Rattle.json_value.specs.Laws
 pub use Rattle.json_read.specs.Faults
 pub use Rattle.json_print.specs.Print
 pub use Rattle.json_print.specs.Escapes
-pub use Rattle.json_read.specs.Unique
+pub use Rattle.json_read.specs.OneValue
+pub use Rattle.json_read.specs.OneFault
 pub use Rattle.json_print.specs.ReadBack
 pub mod Printed

@@ -1,17 +1,15 @@
-use Rattle.std.proofs.Common.{List, ℕ, subst, sym, ◌∙◌}
-use Rattle.std.specs.Prelude.{IsUtf8}
+use Rattle.std.proofs.Common.{sym, ◌∙◌}
 use Rattle.json_read.proofs.Tokens.{number_utf8, number_ok, number_bad, number_ended}
 use Rattle.json_read.proofs.number.number.Goals as goal
 
-pub into_text-requires : goal.into_text-requires
-into_text-requires c =
-    subst (λ (w : List ℕ). IsUtf8 w) (sym c.in_ok-text.ensures)
+pub text_of-requires : goal.text_of-requires
+text_of-requires c =
     (number_utf8 c.args.bytes.now c.args.at c.number_run-end.result.0 c.args.start c.number_run-end.result.1 c.requires.within c.number_run-end.ensures.after c.requires.begins c.number_run-end.ensures.follows (sym c.may_end.ensures ∙ c.if-may_end.true))
 
 pub returns-then-may_end : goal.returns-then-may_end
 returns-then-may_end c =
     number_ok c.args.bytes.now c.args.at c.number_run-end.result.0 c.args.start c.number_run-end.result.1 _ c.requires.within c.number_run-end.ensures.after c.number_run-end.ensures.within c.requires.begins c.number_run-end.ensures.follows (sym c.may_end.ensures ∙ c.if-may_end.true)
-    c.number_run-end.ensures.stops (c.into_text.ensures ∙ c.in_ok-text.ensures)
+    c.number_run-end.ensures.stops c.in_ok-text.ensures
 
 pub returns-then-end-bytes : goal.returns-then-end-bytes
 returns-then-end-bytes c =

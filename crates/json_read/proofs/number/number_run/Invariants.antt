@@ -1,5 +1,6 @@
 use Rattle.std.proofs.Common.{◌≤◌, ◌-◌, length}
-use Rattle.json_read.specs.Reading.{NumberFollows, cut}
+use Rattle.json_machine.specs.Onward.{cut}
+use Rattle.json_read.specs.Reading.{NumberFollows}
 use Rattle.json_read.proofs.number.number_run.Given as goal
 
 abbrev pub invariant-loop-i : goal.invariant-loop-i

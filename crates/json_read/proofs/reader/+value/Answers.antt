@@ -1,9 +1,9 @@
 use Rattle.std.proofs.Common.{List, true, false, sym, subst, ◌∙◌}
 use Rattle.json_value.specs.declared.tree.Json.{Json}
-use Rattle.json_read.specs.Mode as m
+use Rattle.json_machine.specs.Mode as m
 use Rattle.json_read.specs.Reading.{HasRoom}
-use Rattle.json_read.specs.Machine.{Pairs}
-use Rattle.json_read.proofs.Skips.{value_skips}
+use Rattle.json_machine.specs.Machine.{Pairs}
+use Rattle.json_machine.proofs.Skips.{value_skips}
 use Rattle.json_read.proofs.Values.{later_value, with_room, value_ended, Listed, listing, item_more, items_read, list_deep, object_deep, empty_list, bare_object, list_read, object_read, Named, naming, member_more, members_read, mark_is, some_room}
 use Rattle.json_read.proofs.reader.+value.Goals as goal
 

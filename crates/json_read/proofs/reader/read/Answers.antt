@@ -1,6 +1,6 @@
-use Rattle.json_read.proofs.Whole.{reads_found, reads_only}
-use Rattle.json_read.proofs.Bytes.{are_bytes}
-use Rattle.json_read.proofs.Explained.{reads_fault}
+use Rattle.json_machine.proofs.Whole.{reads_found, reads_only}
+use Rattle.json_faults.proofs.Bytes.{are_bytes}
+use Rattle.json_faults.proofs.Explained.{reads_fault}
 use Rattle.json_read.proofs.reader.read.Goals as goal
 
 pub returns-clause-found : goal.returns-clause-found

@@ -1,5 +1,5 @@
 use Rattle.std.proofs.Common.{◌≡◌, true, false, sym, ◌∙◌}
-use Rattle.json_read.specs.Scan.{none}
+use Rattle.json_machine.specs.Scan.{none}
 use Rattle.json_read.proofs.Strings.{plain_more}
 use Rattle.json_read.proofs.string.are_plain.Goals as goal
 use Rattle.json_read.proofs.string.are_plain.Goals.{then-not-is_plain, else-not-is_plain}

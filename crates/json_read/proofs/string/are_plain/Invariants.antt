@@ -1,5 +1,5 @@
 use Rattle.std.proofs.Common.{◌≡◌, true, take}
-use Rattle.json_read.specs.Scan.{Unescaped}
+use Rattle.json_machine.specs.Scan.{Unescaped}
 use Rattle.json_read.proofs.string.are_plain.Given as goal
 
 abbrev pub invariant-loop-i : goal.invariant-loop-i

@@ -1,6 +1,6 @@
 use Rattle.std.proofs.Common.{◌≤◌, ◌-◌, length}
-use Rattle.json_read.specs.Reading.{cut}
-use Rattle.json_read.specs.Scan.{Unescaped}
+use Rattle.json_machine.specs.Onward.{cut}
+use Rattle.json_machine.specs.Scan.{Unescaped}
 use Rattle.json_read.proofs.string.plain_end.Given as goal
 
 abbrev pub invariant-loop-i : goal.invariant-loop-i

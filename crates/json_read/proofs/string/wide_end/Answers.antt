@@ -1,8 +1,8 @@
 use Rattle.std.proofs.Common.{◌≡◌, Some, refl, sym}
 use Rattle.std.proofs.lemmas.Result.{err_from_is_err_and}
 use Rattle.std.specs.Prelude.{slice_index}
-use Rattle.json_read.specs.declared.string.Tail.TheVariants as tails
-use Rattle.json_read.specs.Scan.{lead}
+use Rattle.json_machine.specs.declared.begun.Tail.TheVariants as tails
+use Rattle.json_machine.specs.Scan.{lead}
 use Rattle.json_read.proofs.Strings.{wide_bad, second_fails, third_fails, two_end, three_end, four_end}
 use Rattle.json_read.proofs.string.wide_end.Goals as goal
 

@@ -13,4 +13,4 @@ into_text-requires c = text_utf8 c.args.bytes.now c.args.at c.loop-i.i c.loop-i.
 
 pub returns : goal.returns
 returns c =
-    text_read c.args.bytes.now c.args.at c.loop-i.i c.loop-i.text c.into_text.result c.loop-i.invariant.after c.loop-i.invariant.within (text_closed c.args.bytes.now c.args.at c.loop-i.i c.loop-i.text c.loop-i.invariant c.loop-i-test.false) c.into_text.ensures
+    text_read c.args.bytes.now c.args.at c.loop-i.i c.loop-i.text c.in_ok-whole.whole c.loop-i.invariant.after c.loop-i.invariant.within (text_closed c.args.bytes.now c.args.at c.loop-i.i c.loop-i.text c.loop-i.invariant c.loop-i-test.false) c.in_ok-whole.ensures

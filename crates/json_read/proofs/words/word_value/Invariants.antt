@@ -1,5 +1,5 @@
 use Rattle.std.proofs.Common.{◌≤◌, ◌-◌, length}
-use Rattle.json_read.specs.Machine.{letters}
+use Rattle.json_machine.specs.Machine.{letters}
 use Rattle.json_read.proofs.Tokens.{Spelled}
 use Rattle.json_read.proofs.words.word_value.Given as goal
 

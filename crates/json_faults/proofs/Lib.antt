@@ -1,0 +1,10 @@
+pub mod Laxer
+pub mod Judged
+pub mod Viable
+pub mod Bytes
+pub mod Inside
+pub mod Placed
+pub mod Escapes
+pub mod NamesAt
+pub mod Places
+pub mod Explained

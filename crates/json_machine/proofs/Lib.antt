@@ -1,0 +1,13 @@
+pub mod Wides
+pub mod NumberTexts
+pub mod Texts
+pub mod Utf8
+pub mod TextsGo
+pub mod TextsEnd
+pub mod Frames
+pub mod Complete
+pub mod Whole
+pub mod OneValue
+pub mod PlainRuns
+pub mod Steps
+pub mod Skips

@@ -1,0 +1,13 @@
+pub mod Frame
+pub mod Grown
+pub mod Left
+pub mod Machine
+pub mod Mode
+pub mod Numbers
+pub mod OneValue
+pub mod Onward
+pub mod Part
+pub mod Progress
+pub mod Quad
+pub mod Refusal
+pub mod Scan

@@ -1,5 +1,0 @@
-use Rattle.json_read.proofs.OneValue.{one_value}
-use Rattle.json_read.proofs.laws.text_has_one_value.Goals as goal
-
-pub returns : goal.returns
-returns c = one_value
