@@ -57,9 +57,9 @@ fn max_age(alloc: Global, seconds: u64, private: bool) -> Result<Text, Memory>
     ensures { IfOk result (λ t. t ≡ spec.max_age seconds private) }
 {
     if private {
-        Ok(Text::from_string(format!(in alloc; "max-age={seconds}, private")?))
+        Text::from_string(format!(in alloc; "max-age={seconds}, private")?)
     } else {
-        Ok(Text::from_string(format!(in alloc; "max-age={seconds}, public")?))
+        Text::from_string(format!(in alloc; "max-age={seconds}, public")?)
     }
 }
 

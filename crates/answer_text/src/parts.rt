@@ -18,7 +18,7 @@ pub fn string(alloc: Global, words: &str) -> Result<Json, Memory>
 pub fn number(alloc: Global, n: u64) -> Result<Json, Memory>
     ensures { IfOk result (λ v. v ≡ spec.number n) }
 {
-    Ok(Json::Number(Text::from_string(format!(in alloc; "{n}")?)))
+    Ok(Json::Number(Text::from_string(format!(in alloc; "{n}")?)?))
 }
 
 /// A list of this one member.

@@ -67,13 +67,13 @@ fn key(alloc: Global, number: u64) -> Result<Key, Memory> {
         type_name: Text::of(alloc, "Product")?,
         rep: Text::from_string(format!(in alloc;
             r#"{{"__typename":"Product","upc":"{number}"}}"#
-        )?),
+        )?)?,
         sel: Text::of(alloc, "{ name price }")?,
     })
 }
 
 fn tag(alloc: Global, number: u64) -> Result<Text, Memory> {
-    Ok(Text::from_string(format!(in alloc; "p{number}")?))
+    Text::from_string(format!(in alloc; "p{number}")?)
 }
 
 fn report(alloc: Global, number: u64) -> Result<Report, Memory>

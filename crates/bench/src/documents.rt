@@ -28,7 +28,7 @@ fn given<R: Runtime<A = Global>>(rt: &R) -> Result<Text> {
     let mut bytes = Vec::new(rt.alloc());
     rt.reader().read_to_end(&mut bytes)?;
     match String::from_utf8(bytes) {
-        Ok(source) => Ok(Text::from_string(source)),
+        Ok(source) => Text::from_string(source).map_err(|_| anyhow!("out of memory")),
         Err(_) => Err(anyhow!("the document is not UTF-8")),
     }
 }

@@ -38,7 +38,8 @@ fn close(book: &mut Book, answers: Vec<Found>, offer: Offer)
     requires owed { AreOwed book.old answers.items }
     requires one { length answers.items ≡ 1 }
     requires range { IsInRange (report.Got offer) }
-    ensures { (answer : _) × (answers.items ≡ answer ∷ []) × SettlesMiss answer book.old offer book.new }
+    ensures { (answer : _) × (answers.items ≡ answer ∷ [])
+        × SettlesMiss answer book.old offer book.new }
 {
     let mut answers = answers;
     let answer = answers.pop();

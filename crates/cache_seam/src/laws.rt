@@ -40,8 +40,8 @@ pub fn own_events_are_added()
 
 /// Within an epoch a later seen journal has the earlier one as a prefix.
 pub fn seen_journals_grow()
-    ensures { (old new : Seen) (turns : List Turn) → TakesTurns old turns new → new.pinned ≡ old.pinned
-        → (more : List Event) × (new.journal ≡ old.journal ++ more) }
+    ensures { (old new : Seen) (turns : List Turn) → TakesTurns old turns new →
+        new.pinned ≡ old.pinned → (more : List Event) × (new.journal ≡ old.journal ++ more) }
 {}
 
 /// The journal seen in the end has each journal of its epoch that a turn left as a prefix.

@@ -4,3 +4,4 @@ pub mod Stills
 pub mod Telling
 pub mod Going
 pub mod Written
+mod Opened

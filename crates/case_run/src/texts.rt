@@ -96,5 +96,5 @@ pub fn request_text(alloc: Global, calls: &[Told], answer: &Answer) -> Result<Te
     put_calls(alloc, &mut text, calls)?;
     put_lasting(alloc, &mut text, answer)?;
     put_answer(alloc, &mut text, answer)?;
-    Ok(Text::from_string(text))
+    Text::from_string(text)
 }

@@ -59,7 +59,7 @@ fn texts_after_name(alloc: Global, args: Args) -> Result<Vec<Text>, Memory>
     let _name = rest.next();
     let mut words = Vec::new(alloc);
     while let Some(word) = rest.next() {
-        words.push(Text::from_string(word))?;
+        words.push(Text::from_string(word)?)?;
     }
     Ok(words)
 }

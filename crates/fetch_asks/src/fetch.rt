@@ -81,7 +81,7 @@ fn sel_of(alloc: Global, fetch: &Fetch, members: &str) -> Result<Text, Memory>
     out.push_str("\n{")?;
     out.push_str(members)?;
     out.push_str("}")?;
-    Ok(Text::from_string(out))
+    Text::from_string(out)
 }
 
 /// The key of each piece.

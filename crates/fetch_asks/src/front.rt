@@ -37,5 +37,5 @@ pub fn front_of(
     out.push_str(query.as_str())?;
     out.push_str(",\"variables\":{")?;
     out.push_str(members.as_str())?;
-    Ok(Text::from_string(out))
+    Text::from_string(out)
 }

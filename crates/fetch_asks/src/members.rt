@@ -36,7 +36,8 @@ fn put_member(alloc: Global, out: &mut String, name: &str, value: &Json) -> Resu
 pub fn put_name(alloc: Global, out: &mut String, name: &str) -> Result<(), Memory>
     ensures { (members : List (List ℕ × Json)) (value : Json)
         → string_bytes out.old ≡ members_text members →
-        OnOk result (string_bytes out.new ++ spec.print value ≡ members_text (members ++ (name.now, value) ∷ [])) }
+        OnOk result (string_bytes out.new ++ spec.print value
+        ≡ members_text (members ++ (name.now, value) ∷ [])) }
 {
     if !out.is_empty() {
         out.push_str(",")?;

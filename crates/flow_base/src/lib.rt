@@ -9,6 +9,7 @@
 mod bytes;
 mod causes;
 mod clock;
+mod short;
 mod sink;
 mod source;
 mod take;

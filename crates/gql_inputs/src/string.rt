@@ -181,5 +181,5 @@ pub fn unescaped(alloc: Global, source: &Text) -> Result<Text, Memory>
         let n = put_front(&mut text, rest)?;
         rest = &rest[n..];
     }
-    Ok(Text::from_string(text))
+    Text::from_string(text)
 }

@@ -138,7 +138,8 @@ fn coerce_items(
     spots: &mut Vec<Spot>,
 ) -> Result<Items<Json>, Refusal>
     ensures fine { Makes result (spec.Items schema.now inner.now spots.old.items 0 items.now) }
-    ensures refused { StopsThere result (spec.Items schema.now inner.now spots.old.items 0 items.now) }
+    ensures refused { StopsThere result
+        (spec.Items schema.now inner.now spots.old.items 0 items.now) }
     ensures back { OnOk result (spots.new.items ≡ spots.old.items) }
 {
     let mut made = Items::new(alloc);
@@ -226,7 +227,8 @@ fn coerce_input(
 ) -> Result<Json, Refusal>
     requires { schemas.inputs schema.now name.now ≡ Some fields.now }
     ensures fine { Makes result (InputIs schema.now members.now spots.old.items fields.now) }
-    ensures refused { StopsThere result (InputIs schema.now members.now spots.old.items fields.now) }
+    ensures refused { StopsThere result
+        (InputIs schema.now members.now spots.old.items fields.now) }
     ensures back { OnOk result (spots.new.items ≡ spots.old.items) }
 {
     let places = places_of(alloc, members)?;
@@ -254,7 +256,8 @@ fn coerce_fields(
     requires places { Places places.now members.now }
     requires fields { schemas.inputs schema.now name.now ≡ Some fields.now }
     ensures fine { Makes result (CoercesFields schema.now members.now spots.old.items fields.now) }
-    ensures refused { StopsThere result (CoercesFields schema.now members.now spots.old.items fields.now) }
+    ensures refused { StopsThere result
+        (CoercesFields schema.now members.now spots.old.items fields.now) }
     ensures back { OnOk result (spots.new.items ≡ spots.old.items) }
 {
     let mut made: Items<(Text, Json)> = Items::new(alloc);
@@ -280,7 +283,8 @@ fn coerce_field(
 ) -> Result<Option<Json>, Refusal>
     requires { Places places.now members.now }
     ensures fine { Makes result (CoercesField schema.now members.now spots.old.items field.now) }
-    ensures refused { StopsThere result (CoercesField schema.now members.now spots.old.items field.now) }
+    ensures refused { StopsThere result
+        (CoercesField schema.now members.now spots.old.items field.now) }
     ensures back { OnOk result (spots.new.items ≡ spots.old.items) }
 {
     let at = place_of(places, members, &field.name);

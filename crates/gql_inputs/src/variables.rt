@@ -107,8 +107,8 @@ fn coerce_variable(
     definition: &VarDef,
     given: &Given<'_>,
 ) -> Result<Option<Json>, VarFault>
-    ensures value { IfOk result (λ w. CoercesVariable schema.now given.now.members.now definition.now
-        (known w)) }
+    ensures value { IfOk result (λ w. CoercesVariable schema.now given.now.members.now
+        definition.now (known w)) }
     ensures fault { IfErr result
         (λ e. IsFaultOf schema.now given.now.members.now definition.now e) }
 {
@@ -180,7 +180,8 @@ pub fn coerce(
     given: &Json,
 ) -> Result<Json, VarFault>
     ensures value { IfOk result (λ v. IsCoerced schema.now operation.now.variables given.now v) }
-    ensures fault { IfErr result (λ e. IsFirstFaultOf schema.now operation.now.variables given.now e) }
+    ensures fault { IfErr result
+        (λ e. IsFirstFaultOf schema.now operation.now.variables given.now e) }
 {
     let given = Given::of(alloc, members_of(given))?;
     match coerce_all(alloc, schema, operation.variables.as_slice(), &given) {

@@ -102,8 +102,8 @@ fn definition(
     tokens: &mut Tokens<'_, '_>,
     document: &mut Document,
 ) -> Result<(), Stop>
-    ensures { reads.AddsDefinition (spec.definition strict tokens.old) result document.old document.new
-        tokens.new }
+    ensures { reads.AddsDefinition (spec.definition strict tokens.old) result document.old
+        document.new tokens.new }
 {
     if tokens.sees(Test::Is(Kind::Fragment)) {
         let found = fragment(alloc, tokens)?;

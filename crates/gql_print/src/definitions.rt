@@ -22,7 +22,7 @@ pub fn canonical(alloc: Global, document: &Document) -> Result<Text, Memory>
     put_operations(&mut out, document.operations.as_slice())?;
     put_fragments(&mut out, document.fragments.as_slice())?;
     out.pop();
-    Ok(Text::from_string(out))
+    Text::from_string(out)
 }
 
 fn put_operations(out: &mut String, operations: &[Operation]) -> Result<(), Memory>

@@ -55,7 +55,8 @@ fn type_def(alloc: Global, definition: Definition) -> Result<TypeDef, Memory>
 
 /// Adds the type, where this is the definition of one.
 fn add_part(alloc: Global, types: &mut Items<TypeDef>, part: Part) -> Result<(), Memory>
-    ensures { IfOk result (λ r. types.new ≡ types.old ++ map spec.type_def (spec.own_definition part)) }
+    ensures { IfOk result
+        (λ r. types.new ≡ types.old ++ map spec.type_def (spec.own_definition part)) }
 {
     match part {
         Part::Root => Ok(()),

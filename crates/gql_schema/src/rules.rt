@@ -108,7 +108,8 @@ fn again_at(
 }
 
 fn again_in(alloc: Global, names: &mut IndexSet<Text>, part: &Part) -> Result<Option<Text>, Memory>
-    ensures twice { IfOk result (λ r. r ≡ spec.twice_from names.old.keys (spec.own_definition part.now)) }
+    ensures twice { IfOk result
+        (λ r. r ≡ spec.twice_from names.old.keys (spec.own_definition part.now)) }
     ensures names { IfOk result (λ r. r ≡ None
         → names.new.keys ≡ names.old.keys ++ spec.names_of (spec.own_definition part.now)) }
 {

@@ -60,7 +60,8 @@ fn leave(spots: &mut Vec<Spot>)
 
 /// Takes the last spot off, and hands out its name.
 fn leave_name(spots: &mut Vec<Spot>) -> Text
-    requires { (p : List path.Spot) × (name : List ℕ) × (spots.old.items ≡ p ++ (spot.Name name ∷ [])) }
+    requires { (p : List path.Spot) × (name : List ℕ)
+        × (spots.old.items ≡ p ++ (spot.Name name ∷ [])) }
     ensures { (p : List path.Spot) → (name : List ℕ) →
         spots.old.items ≡ p ++ (spot.Name name ∷ []) → (result ≡ name) × (spots.new.items ≡ p) }
 {
@@ -298,8 +299,8 @@ pub fn complete_fields<'a>(
     requires within { IsStretch stretch collected.old.groups }
     requires ruled { AreRuled collected.old.scope object.now stretch collected.old.groups
         collected.old.rules }
-    ensures fields { IfOk result (λ c. spec.CompletesFields collected.old.scope object.now members.now
-        spots.old.items (groups_in stretch collected.old.groups) c.members c.errors) }
+    ensures fields { IfOk result (λ c. spec.CompletesFields collected.old.scope object.now
+        members.now spots.old.items (groups_in stretch collected.old.groups) c.members c.errors) }
     ensures back { OnOk result (spots.new.items ≡ spots.old.items) }
     ensures extends { OnOk result (Extends collected.old collected.new) }
 {

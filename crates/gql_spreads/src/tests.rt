@@ -8,7 +8,7 @@ use tree_items::Items;
 fn name(alloc: Global, letter: u8) -> Result<Text, Memory> {
     let mut text = String::new(alloc);
     text.push(letter.to_ascii_uppercase() as char)?;
-    Ok(Text::from_string(text))
+    Text::from_string(text)
 }
 
 /// A spread of the letter; of a small one inside an inline fragment.

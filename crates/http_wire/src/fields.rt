@@ -14,7 +14,7 @@ pub(crate) fn text_of(alloc: Global, bytes: &[u8]) -> Result<Text, Memory>
 {
     match String::from_utf8_lossy(alloc, bytes) {
         Err(_) => Err(Memory),
-        Ok(text) => Ok(Text::from_string(text)),
+        Ok(text) => Text::from_string(text),
     }
 }
 
@@ -30,7 +30,7 @@ fn kept_field(alloc: Global, name: &[u8], value: &[u8]) -> Result<Field, Memory>
     match Bytes::of(alloc, value) {
         Err(_) => Err(Memory),
         Ok(value) => Ok(Field {
-            name: Text::from_string(text),
+            name: Text::from_string(text)?,
             value,
         }),
     }

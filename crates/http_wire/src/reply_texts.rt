@@ -32,7 +32,7 @@ pub(crate) fn joined(alloc: Global, fields: &[Field], name: &[u8]) -> Result<Opt
         list.push_str(text_or_mark(value))?;
         rest = more;
     }
-    Ok(Some(Text::from_string(list)))
+    Ok(Some(Text::from_string(list)?))
 }
 
 // The value of the first field with this name; None where there is none.

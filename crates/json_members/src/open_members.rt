@@ -97,8 +97,8 @@ fn names_of(alloc: Global, members: &[(Text, Json)]) -> Result<BTreeSet<Text>, M
 
 /// The digests of the members' names; none where one of them finds no place.
 fn digests_of(alloc: Global, members: &[(Text, Json)]) -> Result<Option<Digests>, Memory>
-    ensures { IfOk result (λ found. IfSome found
-        (λ t. (k : List ℕ) → grammar.has members.now k ≡ true → has_digest t (digest_of k) ≡ true)) }
+    ensures { IfOk result (λ found. IfSome found (λ t. (k : List ℕ) →
+        grammar.has members.now k ≡ true → has_digest t (digest_of k) ≡ true)) }
 {
     let mut digests = Digests::new(alloc, FIRST_MASK)?;
     for i in 0..members.len() {
@@ -131,7 +131,8 @@ impl Index {
     fn of_names(alloc: Global, names: BTreeSet<Text>) -> Result<Index, Memory>
         ensures { IfOk result
             (λ index. (named : List ℕ → Bool)
-            → ((k : List ℕ) → contains (slice_cmp nat_cmp) names k ≡ named k) → IndexesNames index named) }
+            → ((k : List ℕ) → contains (slice_cmp nat_cmp) names k ≡ named k)
+            → IndexesNames index named) }
     {
         match Box::new(alloc, names) {
             Ok(names) => Ok(Index::ByName(names)),

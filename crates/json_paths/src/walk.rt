@@ -34,8 +34,8 @@ fn walk(
     spots: &mut Vec<Spot>,
     found: &mut Vec<Place>,
 ) -> Result<(), Memory>
-    ensures places { OnOk result
-        (found.new.items ≡ found.old.items ++ places_under spots.old.items (spots_in value.now steps.now)) }
+    ensures places { OnOk result (found.new.items
+        ≡ found.old.items ++ places_under spots.old.items (spots_in value.now steps.now)) }
     ensures back { OnOk result (spots.new.items ≡ spots.old.items) }
 {
     match steps {

@@ -28,13 +28,13 @@ escape-plain b plain =
 pub record Kept (out start text : List ℕ) (run i : ℕ) : Type 0 where
   pub order : run ≤ i
   pub cut : IsCharBoundary text run
-  pub written : out ++ (take (i - run) (drop run text) ++ escaped (drop i text)) ≡ start ++ (34 ∷ escaped text)
+  pub written : out ++ (take (i - run) (drop run text) ++ escaped (drop i text)) ≡ start ++ escaped text
 
-pub begins : (out start text : List ℕ) → IsUtf8 text → out ≡ start ++ (34 ∷ []) → Kept out start text 0 0
+pub begins : (out start text : List ℕ) → IsUtf8 text → out ≡ start → Kept out start text 0 0
 begins out start text utf8 is = record {
   order = omega arith;
   cut = IsCharBoundary-start text utf8;
-  written = rw is (append_assoc start (34 ∷ []) (escaped text));
+  written = ap (λ (o : List ℕ). o ++ escaped text) is;
 }
 
 escaped-drop : (text : List ℕ) (i b : ℕ) → i < length text → b ≡ get_or text i 0 → escaped (drop i text) ≡ escape b ++ escaped (drop (i + 1) text)

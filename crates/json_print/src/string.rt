@@ -1,18 +1,19 @@
 ghost use Rattle.std.specs.Prelude.{◌≡◌, ◌<◌, ◌≤◌, ◌↔◌, ◌++◌, OnOk, IsTrue, length, get_or};
 ghost use Rattle.std.specs.Prelude.{string_bytes};
 ghost use Rattle.json_print.specs.Escapes.{NeedsEscape, ArePlain, HasEscape, hex, control, escape};
-ghost use Rattle.json_print.specs.Escapes.{quoted};
+ghost use Rattle.json_print.specs.Escapes.{escaped};
 
 use flow_base::Memory;
 
-/// How many bytes are looked at together: so many that the compiler tests them by wide registers.
+/// How many bytes are looked at together in a long text: so many that the compiler tests them by wide registers.
 const BLOCK: usize = 16;
 
-/// Appends the text between quotes, with its escapes. What needs no escape goes in runs.
-pub fn put_string(out: &mut String, text: &str) -> Result<(), Memory>
-    ensures { OnOk result (string_bytes out.new ≡ string_bytes out.old ++ quoted text.now) }
+/// Appends the text with its escapes between these two. What needs no escape goes in runs.
+pub fn put_between(out: &mut String, before: &str, text: &str, after: &str) -> Result<(), Memory>
+    ensures { OnOk result (string_bytes out.new
+        ≡ string_bytes out.old ++ (before.now ++ (escaped text.now ++ after.now))) }
 {
-    out.push_str("\"")?;
+    out.push_str(before)?;
     let bytes = text.as_bytes();
     let mut run = 0;
     let mut end = plain_end(bytes, 0);
@@ -23,7 +24,7 @@ pub fn put_string(out: &mut String, text: &str) -> Result<(), Memory>
         end = plain_end(bytes, run);
     }
     out.push_str(&text[run..])?;
-    out.push_str("\"")?;
+    out.push_str(after)?;
     Ok(())
 }
 
@@ -36,23 +37,25 @@ fn plain_end(bytes: &[u8], from: usize) -> usize
     ensures first { result < length bytes.now → NeedsEscape (get_or bytes.now result 0) }
 {
     let mut end = from;
-    while bytes.len() - end >= BLOCK && !has_escape(&bytes[end..end + BLOCK]) {
-        end += BLOCK;
+    while end < bytes.len() && !needs_escape(bytes[end]) {
+        end += 1;
+        if end - from == BLOCK {
+            end = blocks_end(bytes, end);
+        }
     }
-    plain_end_by_bytes(bytes, end)
+    end
 }
 
-/// The same, byte by byte.
-fn plain_end_by_bytes(bytes: &[u8], from: usize) -> usize
+/// Where whole blocks of bytes end that need no escape.
+fn blocks_end(bytes: &[u8], from: usize) -> usize
     requires { from ≤ length bytes.now }
     ensures order { from ≤ result }
     ensures within { result ≤ length bytes.now }
     ensures plain { ArePlain bytes.now from result }
-    ensures first { result < length bytes.now → NeedsEscape (get_or bytes.now result 0) }
 {
     let mut end = from;
-    while end < bytes.len() && !needs_escape(bytes[end]) {
-        end += 1;
+    while bytes.len() - end >= BLOCK && !has_escape(&bytes[end..end + BLOCK]) {
+        end += BLOCK;
     }
     end
 }

@@ -1,8 +1,8 @@
-ghost use Rattle.std.specs.Prelude.{◌≡◌, ◌++◌, map, OnOk, IfOk, string_bytes, ℕ, List};
+ghost use Rattle.std.specs.Prelude.{◌≡◌, ◌++◌, map, codes, OnOk, IfOk, string_bytes, ℕ, List};
 ghost use Rattle.json_value.specs.Grammar.{IsText, strict};
 ghost use Rattle.json_print.specs.Print as spec;
 
-use crate::string::put_string;
+use crate::string::put_between;
 use flow_base::{Memory, Text};
 use json_value::Json;
 use std::alloc::Global;
@@ -19,7 +19,7 @@ pub fn print(alloc: Global, value: &Json) -> Result<Text, Memory>
 {
     let mut out = String::new(alloc);
     put(&mut out, value)?;
-    Ok(Text::from_string(out))
+    Text::from_string(out)
 }
 
 #[cycle(put)]
@@ -31,7 +31,7 @@ fn put(out: &mut String, value: &Json) -> Result<(), Memory>
         Json::Bool(true) => out.push_str("true")?,
         Json::Bool(false) => out.push_str("false")?,
         Json::Number(text) => out.push_str(text.as_str())?,
-        Json::Str(text) => put_string(out, text.as_str())?,
+        Json::Str(text) => put_between(out, "\"", text.as_str(), "\"")?,
         Json::List(items) => put_list(out, items.as_slice())?,
         Json::Object(members) => put_object(out, members.as_slice())?,
     }
@@ -59,13 +59,18 @@ fn put_object(out: &mut String, members: &[(Text, Json)]) -> Result<(), Memory>
 {
     out.push_str("{")?;
     for i in 0..members.len() {
-        put_comma(out, i)?;
-        put_string(out, members[i].0.as_str())?;
-        out.push_str(":")?;
+        put_between(out, before_name(i), members[i].0.as_str(), "\":")?;
         put(out, &members[i].1)?;
     }
     out.push_str("}")?;
     Ok(())
+}
+
+/// What stands before the name of a member, after so many others.
+fn before_name(before: usize) -> &'static str
+    ensures { result.now ≡ spec.comma before ++ codes "\"" }
+{
+    if before > 0 { ",\"" } else { "\"" }
 }
 
 fn put_comma(out: &mut String, before: usize) -> Result<(), Memory>

@@ -49,7 +49,8 @@ fn text_number(text: &[u8]) -> Option<u64>
 
 /// The number that is written by 1 to 15 digits, with no sign and no leading zero but in `0`; None of every other value.
 pub fn whole(value: &Json) -> Option<u64>
-    ensures { MatchOption result ((n : ℕ) → IsWholeNumber value.now n → ⊥) (IsWholeNumber value.now) }
+    ensures { MatchOption result
+        ((n : ℕ) → IsWholeNumber value.now n → ⊥) (IsWholeNumber value.now) }
 {
     match value {
         Json::Number(text) => text_number(text.as_str().as_bytes()),

@@ -47,7 +47,7 @@ fn merge_members(
         let Some(other) = others.take(&a.as_slice()[i].0) else {
             continue;
         };
-        let (name, value) = a.replace(i, blank(alloc));
+        let (name, value) = a.replace(i, blank());
         let merged = merge(alloc, value, other)?;
         a.set(i, (name, merged));
     }
@@ -77,8 +77,8 @@ fn merge_elements(
 }
 
 /// A member to stand in the place of one that was taken out.
-pub fn blank(alloc: Global) -> (Text, Json) {
-    (Text::from_string(String::new(alloc)), Json::Null)
+pub fn blank() -> (Text, Json) {
+    (Text::new(), Json::Null)
 }
 
 /// The index of the first member with this name.

@@ -49,7 +49,7 @@ fn body_of(alloc: Global, ask: &Ask, permits: &[Permit]) -> Result<Text, Memory>
     let mut body = String::from_str(alloc, ask.front.as_str())?;
     put_joined(&mut body, permits)?;
     body.push_str(ask.back.as_str())?;
-    Ok(Text::from_string(body))
+    Text::from_string(body)
 }
 
 fn copy_id(id: Option<&Text>) -> Result<Option<Text>, Memory>

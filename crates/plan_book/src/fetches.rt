@@ -146,7 +146,8 @@ fn flatten_in_flatten(alloc: Global, value: &Json, entry: u64, number: u64) -> P
 
 /// The fault of a Sequence or Parallel that stands in a Flatten.
 fn many_in_flatten(alloc: Global, value: &Json, entry: u64, number: u64) -> PlanFault
-    ensures { result ≢ faults.Memory → IsAnswered (spec.nested_many entry number value.now) (Err result) }
+    ensures { result ≢ faults.Memory →
+        IsAnswered (spec.nested_many entry number value.now) (Err result) }
 {
     match children(value) {
         Some(_) => PlanFault::Nesting(entry, number),

@@ -108,7 +108,8 @@ fn read_entry(alloc: Global, value: &Json, number: u64) -> Result<Entry, PlanFau
 /// Adds the next entry, which has this number.
 fn add_entry(alloc: Global, value: &Json, number: u64, book: &mut PlanBook) -> Result<(), PlanFault>
     ensures entry { OnOk result
-        ((e : books.Entry) × IsNextEntry number (map text_of book.old.entries.items) value.now (Ok e)
+        ((e : books.Entry)
+        × IsNextEntry number (map text_of book.old.entries.items) value.now (Ok e)
         × (book.new.entries.items ≡ book.old.entries.items ++ e ∷ [])) }
     ensures fault { IfErr result (λ f. f ≢ faults.Memory
         → IsNextEntry number (map text_of book.old.entries.items) value.now (Err f)) }

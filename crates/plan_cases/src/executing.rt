@@ -48,7 +48,7 @@ fn finished(alloc: Global, machine: Machine) -> Result<String, Fail> {
         return Ok(String::new(alloc));
     }
     let value = machine.finish();
-    Ok(print(alloc, &value)?.into_string())
+    Ok(String::from_str(alloc, print(alloc, &value)?.as_str())?)
 }
 
 fn write_task(alloc: Global, text: &mut String, task: &Task) -> Result<(), Fail> {

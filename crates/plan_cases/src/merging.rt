@@ -43,11 +43,11 @@ fn values_are_merged(rt: HostRuntime) -> Result<(), Fail> {
 fn twenty(alloc: Global, from: u64) -> Result<Json, Fail> {
     let mut members = Items::new(alloc);
     for i in 0..20u64 {
-        let name = Text::from_string(format!(in alloc; "m{i}")?);
+        let name = Text::from_string(format!(in alloc; "m{i}")?)?;
         let number = from % 1000 + i;
         members.push((
             name,
-            Json::Number(Text::from_string(format!(in alloc; "{number}")?)),
+            Json::Number(Text::from_string(format!(in alloc; "{number}")?)?),
         ))?;
     }
     Ok(Json::Object(members))

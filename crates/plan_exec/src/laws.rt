@@ -25,7 +25,8 @@ pub fn what_is_given_is_not_asked(fetches: &[Fetch], given: &[Done], node: &Node
 /// order.
 pub fn others_stay_ready(fetches: &[Fetch], given: &[Done], node: &Node)
     ensures order { (more : List Done) (v : Json) →
-        IsPart (still_open (given.now ++ more) (ready fetches.now given.now node.now v)) (ready fetches.now (given.now ++ more) node.now v) }
+        IsPart (still_open (given.now ++ more) (ready fetches.now given.now node.now v))
+        (ready fetches.now (given.now ++ more) node.now v) }
     ensures each { (more : List Done) (v : Json) (w : Waiting) →
         Among w (ready fetches.now given.now node.now v) →
         pieces_of (given.now ++ more) w.fetch ≡ None →
@@ -36,7 +37,8 @@ pub fn others_stay_ready(fetches: &[Fetch], given: &[Done], node: &Node)
 /// keep that value in the place of the node.
 pub fn a_finished_node_keeps_its_value(fetches: &[Fetch], given: &[Done], node: &Node)
     ensures value { (more : List Done) (v : Json) → ready fetches.now given.now node.now v ≡ [] →
-        spec.exec fetches.now (given.now ++ more) node.now v ≡ spec.exec fetches.now given.now node.now v }
+        spec.exec fetches.now (given.now ++ more) node.now v
+        ≡ spec.exec fetches.now given.now node.now v }
     ensures ended { (more : List Done) (v : Json) → ready fetches.now given.now node.now v ≡ [] →
         ready fetches.now (given.now ++ more) node.now v ≡ [] }
 {}
@@ -60,14 +62,16 @@ pub fn an_order_ends(plan: &Plan, given: &[Done])
         GoesTo (record { plan = plan.now; given = given.now }) order q }
     ensures bound { (order : List ℕ) (q : Progress) →
         OneByOne (record { plan = plan.now; given = given.now }) order q →
-        length order + fetches_left q ≤ fetches_left (record { plan = plan.now; given = given.now }) }
+        length order + fetches_left q
+        ≤ fetches_left (record { plan = plan.now; given = given.now }) }
 {}
 
 /// A law, with nothing to run: what is ready stands in the order of the plan's text, and of a lawful plan each fetch is ready
 /// once.
 pub fn ready_fetches_stand_in_order(plan: &Plan, given: &[Done])
     ensures order { (v : Json) →
-        IsPart (map fetch_of (ready plan.now.fetches given.now plan.now.root v)) (numbers plan.now.root) }
+        IsPart (map fetch_of (ready plan.now.fetches given.now plan.now.root v))
+        (numbers plan.now.root) }
     ensures once { (v : Json) → IsLawful plan.now →
         AllDiffer (map fetch_of (ready plan.now.fetches given.now plan.now.root v)) }
 {}

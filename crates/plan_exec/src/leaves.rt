@@ -67,7 +67,9 @@ pub fn run_entities(
         ≡ with_entities start (rep.used_by (reps_for fetches.now start path.now fetch))
         (entities (pieces_of given.now fetch))) }
     ensures tasks { OnOk result (tasks.new.items ≡ tasks.old.items
-        ++ asked_if asking (map (task_of fetches.now) (unless_given (pieces_of given.now fetch) (if_any (reps_for fetches.now start path.now fetch) (record { fetch = fetch; path = Some path.now; start = start }))))) }
+        ++ asked_if asking (map (task_of fetches.now) (unless_given (pieces_of given.now fetch)
+        (if_any (reps_for fetches.now start path.now fetch)
+        (record { fetch = fetch; path = Some path.now; start = start }))))) }
 {
     let Some(done) = done_of(given, fetch) else {
         if asking {
@@ -92,8 +94,9 @@ fn ask_entities(
     start: &Json,
     tasks: &mut Vec<Task>,
 ) -> Result<(), Memory>
-    ensures { OnOk result (tasks.new.items
-        ≡ tasks.old.items ++ map (task_of fetches.now) (if_any (reps_for fetches.now start.now path.now fetch) (record { fetch = fetch; path = Some path.now; start = start.now }))) }
+    ensures { OnOk result (tasks.new.items ≡ tasks.old.items
+        ++ map (task_of fetches.now) (if_any (reps_for fetches.now start.now path.now fetch)
+        (record { fetch = fetch; path = Some path.now; start = start.now }))) }
 {
     let gathered = gather_for(alloc, fetches, start, path, fetch)?;
     if gathered.distinct.is_empty() {

@@ -26,7 +26,8 @@ pub fn run(
 ) -> Result<Json, Memory>
     ensures value { IfOk result (λ v. v ≡ exec fetches.now given.now node.now start) }
     ensures tasks { OnOk result (tasks.new.items ≡ tasks.old.items
-        ++ asked_if asking (map (task_of fetches.now) (ready fetches.now given.now node.now start))) }
+        ++ asked_if asking
+        (map (task_of fetches.now) (ready fetches.now given.now node.now start))) }
 {
     match node {
         Node::Fetch(fetch) => Ok(run_root(alloc, given, *fetch, start, asking, tasks)?),
@@ -67,7 +68,8 @@ fn run_in_turn(
     ensures value { IfOk result (λ v. v
         ≡ one_by_one (map (exec fetches.now given.now) nodes.now) start) }
     ensures tasks { OnOk result (tasks.new.items ≡ tasks.old.items
-        ++ asked_if asking (map (task_of fetches.now) (first_of fetches.now given.now nodes.now start))) }
+        ++ asked_if asking
+        (map (task_of fetches.now) (first_of fetches.now given.now nodes.now start))) }
 {
     let mut value = start;
     let before = tasks.len();
@@ -92,7 +94,8 @@ fn run_side_by_side(
     ensures value { IfOk result (λ v. v
         ≡ side_by_side (map (exec fetches.now given.now) nodes.now) start.now start.now) }
     ensures tasks { OnOk result (tasks.new.items ≡ tasks.old.items
-        ++ asked_if asking (map (task_of fetches.now) (each_of fetches.now given.now nodes.now start.now))) }
+        ++ asked_if asking
+        (map (task_of fetches.now) (each_of fetches.now given.now nodes.now start.now))) }
 {
     let mut value = copy(alloc, start)?;
     for node in nodes {

@@ -42,7 +42,8 @@ impl Site {
             IsLawfulConfig config → AreLawful plans.entries.items → IsLawful site) }
 
         // Else the answer is the first fault.
-        ensures fault { IfErr result (IsFirstFault (faults_of config.subs schema plans.entries.items)) }
+        ensures fault { IfErr result
+            (IsFirstFault (faults_of config.subs schema plans.entries.items)) }
     {
         match check_entries(config.subs.as_slice(), &schema, &plans.entries) {
             Ok(()) => Ok(Site {

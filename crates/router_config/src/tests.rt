@@ -121,7 +121,7 @@ fn entry(alloc: Global, name: &str, subs: &[&str], types: &[&str]) -> Result<Ent
 /// The site of a good entry and these two. Else the entry at fault, the name in the fault, and whether it is a type's.
 fn built(alloc: Global, first: Entry, second: Entry) -> Result<Site, (u64, Text, bool)> {
     let (Ok(config), Ok(schema)) = (config(alloc), schema(alloc)) else {
-        return Err((9, Text::from_string(String::new(alloc)), false));
+        return Err((9, Text::new(), false));
     };
     let mut plans = PlanBook::new(alloc);
     let added = plans.add(first);
@@ -132,7 +132,7 @@ fn built(alloc: Global, first: Entry, second: Entry) -> Result<Site, (u64, Text,
         Ok(site) => Ok(site),
         Err(SiteFault::UnknownSubgraph(entry, name)) => Err((entry, name, false)),
         Err(SiteFault::UnknownType(entry, name)) => Err((entry, name, true)),
-        Err(SiteFault::Memory) => Err((8, Text::from_string(String::new(alloc)), false)),
+        Err(SiteFault::Memory) => Err((8, Text::new(), false)),
     }
 }
 

@@ -100,14 +100,14 @@ pub fn reply_line(alloc: Global, reply: &Reply) -> Result<Text, Memory>
 fn epoch_line(alloc: Global, epoch: u64) -> Result<Text, Memory>
     ensures { IfOk result (λ t. t ≡ line_of (codes "epoch" ∷ decimal epoch ∷ [])) }
 {
-    Ok(Text::from_string(format!(in alloc; "epoch {epoch}\n")?))
+    Text::from_string(format!(in alloc; "epoch {epoch}\n")?)
 }
 
 fn hit_line(alloc: Global, lookup: u64, stored: u64, value: &Text) -> Result<Text, Memory>
     ensures { IfOk result (λ t. t ≡ hit_text lookup stored value.now) }
 {
     let value = value.as_str();
-    Ok(Text::from_string(format!(in alloc; "{lookup} hit {stored} {value}\n")?))
+    Text::from_string(format!(in alloc; "{lookup} hit {stored} {value}\n")?)
 }
 
 fn miss_line(alloc: Global, lookup: u64, epoch: u64, mark: Mark) -> Result<Text, Memory>
@@ -116,8 +116,8 @@ fn miss_line(alloc: Global, lookup: u64, epoch: u64, mark: Mark) -> Result<Text,
     match mark {
         Mark::Ticket(ticket) => Ok(Text::from_string(format!(in alloc;
             "{lookup} miss {epoch}.{ticket}\n"
-        )?)),
-        _ => Ok(Text::from_string(format!(in alloc; "{lookup} miss {epoch}.\n")?)),
+        )?)?),
+        _ => Ok(Text::from_string(format!(in alloc; "{lookup} miss {epoch}.\n")?)?),
     }
 }
 
@@ -125,21 +125,21 @@ fn bypass_line(alloc: Global, mark: Mark) -> Result<Text, Memory>
     ensures { IfOk result (λ t. t ≡ bypass_text mark) }
 {
     match mark {
-        Mark::Over { pinned, current } => Ok(Text::from_string(format!(in alloc;
+        Mark::Over { pinned, current } => Text::from_string(format!(in alloc;
             "bypass over {pinned} {current}\n"
-        )?)),
+        )?),
         Mark::Full {
             length,
             reserved,
             needed,
             limit,
-        } => Ok(Text::from_string(format!(in alloc;
+        } => Text::from_string(format!(in alloc;
             "bypass full {length} {reserved} {needed} {limit}\n"
-        )?)),
-        Mark::Wide { bytes, limit } => Ok(Text::from_string(format!(in alloc;
+        )?),
+        Mark::Wide { bytes, limit } => Text::from_string(format!(in alloc;
             "bypass wide {bytes} {limit}\n"
-        )?)),
-        _ => Ok(Text::from_string(format!(in alloc; "bypass retired\n")?)),
+        )?),
+        _ => Text::from_string(format!(in alloc; "bypass retired\n")?),
     }
 }
 
@@ -158,7 +158,7 @@ fn why_line(alloc: Global, why: Why) -> Result<Text, Memory>
         Why::TagCount(count) => format!(in alloc; "unstorable tagcount {count}\n")?,
         Why::TagForm => format!(in alloc; "unstorable tagform\n")?,
     };
-    Ok(Text::from_string(text))
+    Text::from_string(text)
 }
 
 fn outcome_line(alloc: Global, outcome: Outcome) -> Result<Text, Memory>
@@ -166,17 +166,15 @@ fn outcome_line(alloc: Global, outcome: Outcome) -> Result<Text, Memory>
 {
     match outcome {
         Outcome::Stored => Text::of(alloc, "stored\n"),
-        Outcome::Void(position) => {
-            Ok(Text::from_string(format!(in alloc; "void {position}\n")?))
-        }
-        Outcome::NoRoom { bytes, adds, limit } => Ok(Text::from_string(format!(in alloc;
+        Outcome::Void(position) => { Text::from_string(format!(in alloc; "void {position}\n")?) }
+        Outcome::NoRoom { bytes, adds, limit } => Text::from_string(format!(in alloc;
             "noroom {bytes} {adds} {limit}\n"
-        )?)),
+        )?),
         Outcome::Unstorable(why) => why_line(alloc, why),
         Outcome::Failed => Text::of(alloc, "failed\n"),
-        Outcome::Over { pinned, current } => Ok(Text::from_string(format!(in alloc;
+        Outcome::Over { pinned, current } => Text::from_string(format!(in alloc;
             "over {pinned} {current}\n"
-        )?)),
+        )?),
         Outcome::Bypassed => Text::of(alloc, "bypassed\n"),
         Outcome::Memory => Text::of(alloc, "memory\n"),
     }
@@ -190,7 +188,7 @@ fn settled_line(alloc: Global, position: Option<u64>, outcome: Outcome) -> Resul
         None => Ok(line),
         Some(position) => {
             let rest = line.as_str();
-            Ok(Text::from_string(format!(in alloc; "{position} {rest}")?))
+            Ok(Text::from_string(format!(in alloc; "{position} {rest}")?)?)
         }
     }
 }
@@ -199,10 +197,10 @@ fn voided_line(alloc: Global, began: Option<u64>, position: u64, count: u64) -> 
     ensures { IfOk result (λ t. t ≡ voided_text began position count) }
 {
     match began {
-        None => Ok(Text::from_string(format!(in alloc; "{position} voided {count}\n")?)),
-        Some(epoch) => Ok(Text::from_string(format!(in alloc;
+        None => Text::from_string(format!(in alloc; "{position} voided {count}\n")?),
+        Some(epoch) => Text::from_string(format!(in alloc;
             "turned {epoch} {position} voided {count}\n"
-        )?)),
+        )?),
     }
 }
 
@@ -215,19 +213,17 @@ fn tally_line(
 ) -> Result<Text, Memory>
     ensures { IfOk result (λ t. t ≡ tally_text epoch events bytes pending) }
 {
-    Ok(Text::from_string(format!(in alloc;
+    Text::from_string(format!(in alloc;
         "epoch {epoch} events {events} bytes {bytes} open {pending}\n"
-    )?))
+    )?)
 }
 
 fn refused_line(alloc: Global, number: u64, cause: Cause) -> Result<Text, Memory>
     ensures { IfOk result (λ t. t ≡ refused_text number cause) }
 {
     match cause {
-        Cause::Word => Ok(Text::from_string(format!(in alloc; "line {number} refused word\n")?)),
-        Cause::Who => Ok(Text::from_string(format!(in alloc; "line {number} refused who\n")?)),
-        Cause::Ticket => Ok(Text::from_string(format!(in alloc;
-            "line {number} refused ticket\n"
-        )?)),
+        Cause::Word => Text::from_string(format!(in alloc; "line {number} refused word\n")?),
+        Cause::Who => Text::from_string(format!(in alloc; "line {number} refused who\n")?),
+        Cause::Ticket => Text::from_string(format!(in alloc; "line {number} refused ticket\n")?),
     }
 }

@@ -33,7 +33,7 @@ fn told_values(
     given: &Json,
 ) -> Result<String, Memory> {
     match coerce(alloc, schema, operation, given) {
-        Ok(value) => Ok(print(alloc, &value)?.into_string()),
+        Ok(value) => Ok(String::from_str(alloc, print(alloc, &value)?.as_str())?),
         Err(VarFault::Missing(name)) => told(alloc, "missing ", &name),
         Err(VarFault::Null(name)) => told(alloc, "null ", &name),
         Err(VarFault::WrongKind(name, place)) => refused(alloc, "kind ", &name, &place),

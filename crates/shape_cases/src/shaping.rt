@@ -24,7 +24,7 @@ fn write_errors(alloc: Global, text: &mut String, errors: &[ShapeError]) -> Resu
 
 /// An answer's data, and then each error with its place.
 fn told(alloc: Global, answer: &Shaped) -> Result<String, Memory> {
-    let mut text = print(alloc, &answer.value)?.into_string();
+    let mut text = String::from_str(alloc, print(alloc, &answer.value)?.as_str())?;
     write_errors(alloc, &mut text, answer.errors.as_slice())?;
     Ok(text)
 }

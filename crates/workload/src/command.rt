@@ -80,7 +80,8 @@ fn summary(alloc: Global, case: &Case, steps: u64) -> Result<Text, Memory>
 }
 
 fn put_made(alloc: Global, text: &mut String, steps: u64, counts: Counts) -> Result<(), Memory>
-    ensures { OnOk result (string_bytes text.new ≡ string_bytes text.old ++ made_text steps counts) }
+    ensures { OnOk result
+        (string_bytes text.new ≡ string_bytes text.old ++ made_text steps counts) }
 {
     let requests = counts.requests;
     let voids = counts.voids;
@@ -116,7 +117,7 @@ fn summary_of(alloc: Global, steps: u64, counts: Counts, tally: Tally) -> Result
     put_made(alloc, &mut text, steps, counts)?;
     put_looked(alloc, &mut text, counts)?;
     put_left(alloc, &mut text, tally)?;
-    Ok(Text::from_string(text))
+    Text::from_string(text)
 }
 
 /// Writes the text, and finishes so, or as the sink failed.

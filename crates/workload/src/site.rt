@@ -38,7 +38,7 @@ fn variables_drawn(alloc: Global, drawn: u64) -> Result<Json, Memory>
     ensures { IfOk result (λ v. v ≡ spec.variables_drawn drawn) }
 {
     let item = item_of(drawn);
-    let from = Text::from_string(format!(in alloc; "{item}")?);
+    let from = Text::from_string(format!(in alloc; "{item}")?)?;
     let mut members = Items::new(alloc);
     members.push((Text::of(alloc, "from")?, Json::Number(from)))?;
     Ok(Json::Object(members))
@@ -64,6 +64,6 @@ pub fn notice_drawn(alloc: Global, drawn: u64) -> Result<Notice, Memory>
     ensures { IfOk result (λ n. n ≡ spec.target_drawn drawn) }
 {
     let item = item_of(drawn);
-    let tag = Text::from_string(format!(in alloc; "p{item}")?);
+    let tag = Text::from_string(format!(in alloc; "p{item}")?)?;
     Notice::of(&Target::Tag(Text::of(alloc, "reviews")?, tag))
 }

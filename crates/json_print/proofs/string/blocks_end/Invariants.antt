@@ -1,6 +1,6 @@
 use Rattle.std.specs.Prelude.{◌≤◌, ◌-◌, length}
 use Rattle.json_print.specs.Escapes.{ArePlain}
-use Rattle.json_print.proofs.string.plain_end_by_bytes.Given as goal
+use Rattle.json_print.proofs.string.blocks_end.Given as goal
 
 abbrev pub invariant-loop-end : goal.invariant-loop-end
 invariant-loop-end l = (l.from ≤ l.end) × (l.end ≤ length l.bytes) × ArePlain l.bytes l.from l.end
