@@ -115,15 +115,15 @@ found_at (b ∷ bs) zero within needs = inl needs
 found_at (b ∷ bs) (suc k) within needs = inr (found_at bs k (omega arith) needs)
 
 -- a byte of a block, by its place in the whole
-in_block : (bytes : List ℕ) (end k : ℕ) → end + 16 ≤ length bytes → k < 16 → NeedsEscape (get_or bytes (end + k) 0) → HasEscape (take 16 (drop end bytes))
+in_block : (bytes : List ℕ) (end k : ℕ) → end + 8 ≤ length bytes → k < 8 → NeedsEscape (get_or bytes (end + k) 0) → HasEscape (take 8 (drop end bytes))
 in_block bytes end k within lt needs =
-    let long : k < length (take 16 (drop end bytes)) = rw (length-take-le 16 (drop end bytes) (rw length-drop (omega arith))) lt in
-    let same : get_or (take 16 (drop end bytes)) k 0 ≡ get_or bytes (end + k) 0 = get_or-take 16 (drop end bytes) k 0 lt ∙ get_or-drop end bytes k 0 in
-    found_at (take 16 (drop end bytes)) k long (subst NeedsEscape (sym same) needs)
+    let long : k < length (take 8 (drop end bytes)) = rw (length-take-le 8 (drop end bytes) (rw length-drop (omega arith))) lt in
+    let same : get_or (take 8 (drop end bytes)) k 0 ≡ get_or bytes (end + k) 0 = get_or-take 8 (drop end bytes) k 0 lt ∙ get_or-drop end bytes k 0 in
+    found_at (take 8 (drop end bytes)) k long (subst NeedsEscape (sym same) needs)
 
 -- a block without a byte that needs an escape makes what is plain longer
-pub block_plain : (bytes : List ℕ) (from end width : ℕ) → width ≡ 16 → end + 16 ≤ length bytes → ArePlain bytes from end
-    → (HasEscape (take width (drop end bytes)) → ⊥) → ArePlain bytes from (end + 16)
+pub block_plain : (bytes : List ℕ) (from end width : ℕ) → width ≡ 8 → end + 8 ≤ length bytes → ArePlain bytes from end
+    → (HasEscape (take width (drop end bytes)) → ⊥) → ArePlain bytes from (end + 8)
 block_plain bytes from end width wide within plain none i lo hi needs = elim (cases_lt i end) [
   | inl below ↦ plain i lo below needs
   | inr above ↦ none (subst (λ (w : ℕ). HasEscape (take w (drop end bytes))) (sym wide) (in_block bytes end (i - end) within (omega arith) (subst (λ (j : ℕ). NeedsEscape (get_or bytes j 0)) (let e : i ≡ end + (i - end) = omega arith in e) needs)))

@@ -1,19 +1,18 @@
 ghost use Rattle.std.specs.Prelude.{◌≡◌, ◌<◌, ◌≤◌, ◌↔◌, ◌++◌, OnOk, IsTrue, length, get_or};
 ghost use Rattle.std.specs.Prelude.{string_bytes};
 ghost use Rattle.json_print.specs.Escapes.{NeedsEscape, ArePlain, HasEscape, hex, control, escape};
-ghost use Rattle.json_print.specs.Escapes.{escaped};
+ghost use Rattle.json_print.specs.Escapes.{escaped, quoted};
 
 use flow_base::Memory;
 
 /// How many bytes are looked at together in a long text: so many that the compiler tests them by wide registers.
-const BLOCK: usize = 16;
+const BLOCK: usize = 8;
 
-/// Appends the text with its escapes between these two. What needs no escape goes in runs.
-pub fn put_between(out: &mut String, before: &str, text: &str, after: &str) -> Result<(), Memory>
-    ensures { OnOk result (string_bytes out.new
-        ≡ string_bytes out.old ++ (before.now ++ (escaped text.now ++ after.now))) }
+/// Appends the text with its escapes between two quotes. What needs no escape goes in runs.
+pub fn put_quoted(out: &mut String, text: &str) -> Result<(), Memory>
+    ensures { OnOk result (string_bytes out.new ≡ string_bytes out.old ++ quoted text.now) }
 {
-    out.push_str(before)?;
+    out.push('"')?;
     let bytes = text.as_bytes();
     let mut run = 0;
     let mut end = plain_end(bytes, 0);
@@ -24,7 +23,7 @@ pub fn put_between(out: &mut String, before: &str, text: &str, after: &str) -> R
         end = plain_end(bytes, run);
     }
     out.push_str(&text[run..])?;
-    out.push_str(after)?;
+    out.push('"')?;
     Ok(())
 }
 
@@ -36,12 +35,9 @@ fn plain_end(bytes: &[u8], from: usize) -> usize
     ensures plain { ArePlain bytes.now from result }
     ensures first { result < length bytes.now → NeedsEscape (get_or bytes.now result 0) }
 {
-    let mut end = from;
+    let mut end = blocks_end(bytes, from);
     while end < bytes.len() && !needs_escape(bytes[end]) {
         end += 1;
-        if end - from == BLOCK {
-            end = blocks_end(bytes, end);
-        }
     }
     end
 }

@@ -2,7 +2,7 @@ ghost use Rattle.std.specs.Prelude.{◌≡◌, ◌++◌, map, codes, OnOk, IfOk,
 ghost use Rattle.json_value.specs.Grammar.{IsText, strict};
 ghost use Rattle.json_print.specs.Print as spec;
 
-use crate::string::put_between;
+use crate::string::put_quoted;
 use flow_base::{Memory, Text};
 use json_value::Json;
 use std::alloc::Global;
@@ -31,7 +31,7 @@ fn put(out: &mut String, value: &Json) -> Result<(), Memory>
         Json::Bool(true) => out.push_str("true")?,
         Json::Bool(false) => out.push_str("false")?,
         Json::Number(text) => out.push_str(text.as_str())?,
-        Json::Str(text) => put_between(out, "\"", text.as_str(), "\"")?,
+        Json::Str(text) => put_quoted(out, text.as_str())?,
         Json::List(items) => put_list(out, items.as_slice())?,
         Json::Object(members) => put_object(out, members.as_slice())?,
     }
@@ -43,12 +43,12 @@ fn put_list(out: &mut String, items: &[Json]) -> Result<(), Memory>
     ensures { OnOk result (string_bytes out.new ≡ string_bytes out.old
         ++ spec.bracketed 91 (map spec.print items.now) 93) }
 {
-    out.push_str("[")?;
+    out.push('[')?;
     for i in 0..items.len() {
         put_comma(out, i)?;
         put(out, &items[i])?;
     }
-    out.push_str("]")?;
+    out.push(']')?;
     Ok(())
 }
 
@@ -57,27 +57,22 @@ fn put_object(out: &mut String, members: &[(Text, Json)]) -> Result<(), Memory>
     ensures { OnOk result (string_bytes out.new ≡ string_bytes out.old
         ++ spec.bracketed 123 (map spec.member_text (map spec.print_member members.now)) 125) }
 {
-    out.push_str("{")?;
+    out.push('{')?;
     for i in 0..members.len() {
-        put_between(out, before_name(i), members[i].0.as_str(), "\":")?;
+        put_comma(out, i)?;
+        put_quoted(out, members[i].0.as_str())?;
+        out.push(':')?;
         put(out, &members[i].1)?;
     }
-    out.push_str("}")?;
+    out.push('}')?;
     Ok(())
-}
-
-/// What stands before the name of a member, after so many others.
-fn before_name(before: usize) -> &'static str
-    ensures { result.now ≡ spec.comma before ++ codes "\"" }
-{
-    if before > 0 { ",\"" } else { "\"" }
 }
 
 fn put_comma(out: &mut String, before: usize) -> Result<(), Memory>
     ensures { OnOk result (string_bytes out.new ≡ string_bytes out.old ++ spec.comma before) }
 {
     if before > 0 {
-        out.push_str(",")?;
+        out.push(',')?;
     }
     Ok(())
 }
