@@ -1,20 +1,19 @@
 -- Each fault is the first one, at its place, and there is no other.
-use Rattle.std.proofs.Common.{◌≡◌, ℕ, suc, ◌+◌, ◌<◌, Bool, true, false, List, [], ◌∷◌, ◌++◌, length, take, drop, get_or, Result, Ok, Err, refl, sym, ap, subst, ◌∙◌, arith, append_assoc, ◌⊎◌, inl, inr, length-append}
+use Rattle.std.proofs.Common.{◌≡◌, ℕ, suc, ◌+◌, ◌<◌, true, List, [], ◌∷◌, ◌++◌, length, take, drop, get_or, Result, Ok, Err, refl, sym, ap, subst, ◌∙◌, arith, append_assoc, ◌⊎◌, inl, inr, length-append}
 use Rattle.std.specs.Prelude.{IfErr}
 use Rattle.std.proofs.lemmas.List.{take_at, take-append-drop, length-take-le}
 use Rattle.std.proofs.Math.Seq.{take-suc, drop-cons}
+use Rattle.std.proofs.lemmas.Bool.Decides.{nat_tests}
 use Rattle.json_value.specs.declared.tree.Json.{Json}
 use Rattle.json_machine.specs.Refusal.{Refusal}
 use Rattle.json_machine.specs.Refusal as e
 use Rattle.json_value.specs.declared.fault.JsonFault.{JsonFault}
 use Rattle.json_value.specs.declared.fault.JsonFault.TheVariants as faults
 use Rattle.json_machine.specs.Mode.{Mode}
-use Rattle.json_machine.specs.Mode as m
 use Rattle.json_value.specs.Grammar.{Rules, strict, IsViable}
 use Rattle.json_faults.specs.Faults.{lone, deeper, any_names, StopsAt, SequenceAt, HighAt, LowAt, NameAt, SurrogateAt, NoRule, MalformedAt, Explains}
 use Rattle.exact_read.specs.Steps.{run}
-use Rattle.json_machine.specs.Numbers.{may_end}
-use Rattle.json_machine.specs.Machine.{Frames, ReaderState, Stepped, step_by, step, start, finish, finish_by, number_end, placed, whole, read_of, Reads}
+use Rattle.json_machine.specs.Machine.{Frames, ReaderState, Stepped, step_by, step, start, finish, finish_by, placed, whole, read_of, Reads}
 use Rattle.json_machine.proofs.Frames.{Left}
 use Rattle.json_faults.proofs.Laxer.{Laxer, lone_deeper, lone_any_names, run_agrees}
 use Rattle.json_faults.proofs.Judged.{Fits, StillFits, Judged, GoesOn, step_by_judged, step_by_fits}
@@ -248,13 +247,7 @@ fault_unique bytes x y not_x not_y h k = same_found bytes x y (found bytes x not
 -- ---- what reading answers
 
 only_ended : (mode : Mode) (fs : Frames) (x : JsonFault) → finish_by mode fs ≡ Err x → faults.Ended ≡ x
-only_ended (m.After y) [] x e = absurd cc
-only_ended (m.Number part text) [] x e = by_end (may_end part) e
-  where
-    by_end : (b : Bool) → number_end b text ≡ Err x → faults.Ended ≡ x
-    by_end true e = absurd cc
-    by_end false e = err_is faults.Ended x e
-only_ended _ _ x e = err_is faults.Ended x e
+only_ended mode fs x e = grind (arith, nat_tests)
 
 pub read_explains : (bytes : List ℕ) (x : JsonFault) → AreBytes bytes → read_of strict bytes ≡ Err x → Explains bytes x
 unfolding read_of finish

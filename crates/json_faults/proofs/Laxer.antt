@@ -33,9 +33,7 @@ scan_agrees : (l l' : Bool) (at : ℕ) (part : Part) (text : List ℕ) (b : ℕ)
 scan_agrees l l' at part text b is = subst (λ (k : Bool). Agrees (scan l at part text b) (scan k at part text b)) is (same (scan l at part text b))
 
 str_agrees : (fs : Frames) (o o' : Scanned) → Agrees o o' → Agrees (str_by fs o) (str_by fs o')
-str_agrees fs (Ok (s.Done text)) o' h = ap (str_by fs) h
-str_agrees fs (Ok (s.More part text)) o' h = ap (str_by fs) h
-str_agrees fs (Err why) o' h = tt
+str_agrees fs o o' h = grind (arith, nat_tests)
 
 naming_agrees : (a b : Rules) (fs : Frames) (ms : Pairs) (place : ℕ) (o o' : Scanned) → Laxer a b → Agrees o o' → Agrees (naming_by a.distinct fs ms place o) (naming_by b.distinct fs ms place o')
 unfolding named

@@ -20,7 +20,7 @@ use Rattle.json_machine.specs.Machine.{Frames, ReaderState, step, start}
 use Rattle.exact_read.proofs.Machines.{ok_is, err_is, differ, run_one, run_split}
 use Rattle.json_faults.proofs.Viable.{runs_valid, viable_after}
 use Rattle.json_machine.proofs.Wides.{wide_tails}
-use Rattle.json_machine.proofs.TextsGo.{IsPart, tail_holds, heads, lead_big, wide_steps}
+use Rattle.json_machine.proofs.TextsGo.{IsPart, heads, lead_big, wide_steps}
 use Rattle.json_machine.proofs.Whole.{Valid}
 use Rattle.json_machine.proofs.Complete.{IsValid}
 use Rattle.json_faults.proofs.Inside.{Inner, value, name, inside, in_string, in_by, goes_inside, refused_inside, never, step_inside}
@@ -71,12 +71,6 @@ run_to inner at part part' text text' fs b rest z is runs =
 abbrev IsPlainPart : Part → Type 0
 IsPlainPart part = part ≡ p.Plain
 
-pub below_tail : (b : ℕ) (tail : Tail) → b < 128 → tail_holds tail → within (tail_low tail) (tail_high tail) b ≡ false
-below_tail b tail lt holds = grind (arith, nat_tests)
-
-above_tail : (b : ℕ) (tail : Tail) → 191 < b → tail_holds tail → within (tail_low tail) (tail_high tail) b ≡ false
-above_tail b tail lt holds = grind (arith, nat_tests)
-
 wide_refuses : (at place : ℕ) (tail : Tail) (text : List ℕ) (b : ℕ) → within (tail_low tail) (tail_high tail) b ≡ false → scan true at (p.Wide place tail) text b ≡ Err (e.Malformed place)
 unfolding scan wide_scan
 wide_refuses at place tail text b is = cond-false (within (tail_low tail) (tail_high tail) b) _ _ is
@@ -87,14 +81,8 @@ wide_accepts at place tail text b is = cond-true (within (tail_low tail) (tail_h
 
 -- where a backslash and a blank may stand, a character may begin
 plain_part : (inner : Inner) (at : ℕ) (part : Part) (text : List ℕ) (fs : Frames) (y z : ReaderState) → IsPart part → step lone at (Stand inner part text fs) 92 ≡ Ok y → step lone at (Stand inner part text fs) 32 ≡ Ok z → part ≡ p.Plain
-unfolding scan escape_scan hex_scan slash_scan letter_scan low_scan
-plain_part inner at p.Plain text fs y z valid slash blank = refl
-plain_part inner at (p.Escape place) text fs y z valid slash blank = absurd (stops_at inner at (p.Escape place) text fs 32 e.Syntax z refl blank)
-plain_part inner at (p.Hex place quad) text fs y z valid slash blank = absurd (stops_at inner at (p.Hex place quad) text fs 92 e.Syntax y refl slash)
-plain_part inner at (p.Slash place high) text fs y z valid slash blank = absurd (stops_at inner at (p.Slash place high) text fs 32 (e.Surrogate place) z refl blank)
-plain_part inner at (p.Letter place high) text fs y z valid slash blank = absurd (stops_at inner at (p.Letter place high) text fs 92 (e.Surrogate place) y refl slash)
-plain_part inner at (p.Low place high quad) text fs y z valid slash blank = absurd (stops_at inner at (p.Low place high quad) text fs 92 (e.Surrogate place) y refl slash)
-plain_part inner at (p.Wide place tail) text fs y z valid slash blank = absurd (stops_at inner at (p.Wide place tail) text fs 92 (e.Malformed place) y (wide_refuses at place tail text 92 (below_tail 92 tail (omega arith) valid)) slash)
+unfolding step scan escape_scan hex_scan slash_scan letter_scan low_scan wide_scan
+plain_part inner at part text fs y z valid slash blank = grind (arith, nat_tests)
 
 pub plain_standing : (before : List ℕ) (x : ReaderState) → InString before → run (step lone) before 0 start ≡ Ok x → Standing IsPlainPart x
 unfolding step
@@ -122,16 +110,9 @@ IsWideAt place _ = ⊥
 
 -- the first byte of such a character is read between two characters alone
 begins_wide : (inner : Inner) (at : ℕ) (part : Part) (text : List ℕ) (fs : Frames) (b : ℕ) (tail : Tail) (y : ReaderState) → IsPart part → lead b ≡ Some tail → step lone at (Stand inner part text fs) b ≡ Ok y → y ≡ Stand inner (p.Wide at tail) (text ++ b ∷ []) fs
-unfolding scan escape_scan hex_scan slash_scan letter_scan low_scan
+unfolding step scan escape_scan hex_scan slash_scan letter_scan low_scan wide_scan
 begins_wide inner at p.Plain text fs b tail y valid is stepped = goes_to inner at p.Plain (p.Wide at tail) text (text ++ b ∷ []) fs b y (wide_steps at text b tail is) stepped
-begins_wide inner at (p.Escape place) text fs b tail y valid is stepped = absurd (stops_at inner at (p.Escape place) text fs b e.Syntax y (grind (arith, nat_tests)) stepped)
-begins_wide inner at (p.Hex place quad) text fs b tail y valid is stepped = absurd (stops_at inner at (p.Hex place quad) text fs b e.Syntax y (grind (arith, nat_tests)) stepped)
-begins_wide inner at (p.Slash place high) text fs b tail y valid is stepped = absurd (stops_at inner at (p.Slash place high) text fs b (e.Surrogate place) y (grind (arith, nat_tests)) stepped)
-begins_wide inner at (p.Letter place high) text fs b tail y valid is stepped = absurd (stops_at inner at (p.Letter place high) text fs b (e.Surrogate place) y (grind (arith, nat_tests)) stepped)
-begins_wide inner at (p.Low place high quad) text fs b tail y valid is stepped = absurd (stops_at inner at (p.Low place high quad) text fs b (e.Surrogate place) y (grind (arith, nat_tests)) stepped)
-begins_wide inner at (p.Wide place tail') text fs b tail y valid is stepped =
-    let big = lead_big b tail is in
-    absurd (stops_at inner at (p.Wide place tail') text fs b (e.Malformed place) y (wide_refuses at place tail' text b (above_tail b tail' (omega arith) valid)) stepped)
+begins_wide inner at _ text fs b tail y valid is stepped = absurd (grind (arith, nat_tests))
 
 -- how many bytes are to come
 abbrev size : Tail → ℕ
@@ -153,11 +134,8 @@ tails_size (tails.Two lo hi) l u w ts = two_size lo hi l u w ts
 tails_size (tails.Three lo hi) l u w ts = ap length ts.made ∙ ap suc (two_size 128 191 l ts.others ts.after ts.onward)
 
 wide_goes : (inner : Inner) (at place : ℕ) (tail : Tail) (text : List ℕ) (fs : Frames) (b : ℕ) (y : ReaderState) → step lone at (Stand inner (p.Wide place tail) text fs) b ≡ Ok y → y ≡ Stand inner (wide_next place tail) (text ++ b ∷ []) fs
-wide_goes inner at place tail text fs b y stepped = by_test (within (tail_low tail) (tail_high tail) b) refl
-  where
-    by_test : (t : Bool) → within (tail_low tail) (tail_high tail) b ≡ t → y ≡ Stand inner (wide_next place tail) (text ++ b ∷ []) fs
-    by_test true is = goes_to inner at (p.Wide place tail) (wide_next place tail) text (text ++ b ∷ []) fs b y (wide_accepts at place tail text b is) stepped
-    by_test false is = absurd (stops_at inner at (p.Wide place tail) text fs b (e.Malformed place) y (wide_refuses at place tail text b is) stepped)
+unfolding step scan wide_scan
+wide_goes inner at place tail text fs b y stepped = grind (arith, nat_tests)
 
 stays_wide : (inner : Inner) (others : List ℕ) (at place : ℕ) (tail : Tail) (text : List ℕ) (fs : Frames) (z : ReaderState) → length others < size tail → run (step lone) others at (Stand inner (p.Wide place tail) text fs) ≡ Ok z → Standing (IsWideAt place) z
 unfolding run

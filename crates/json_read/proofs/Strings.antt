@@ -1,10 +1,11 @@
 -- Characters, escapes and whole strings.
-use Rattle.std.proofs.Common.{◌≡◌, ◌≢◌, ℕ, suc, ◌+◌, ◌-◌, ◌<◌, ◌≤◌, Bool, true, false, List, [], ◌∷◌, ◌++◌, length, take, drop, get_or, add-one, Option, Some, None, Result, Ok, Err, refl, sym, ap, subst, ◌∙◌, arith, inl, inr}
-use Rattle.std.specs.Prelude.{IsUtf8, encode_utf8, nat_le, nat_lt, ◌==◌, ◌||◌, ◌&&◌}
+use Rattle.std.proofs.Common.{◌≡◌, ◌≢◌, ℕ, suc, ◌+◌, ◌-◌, ◌<◌, ◌≤◌, true, false, List, [], ◌∷◌, ◌++◌, length, take, drop, get_or, add-one, Option, Some, None, Result, Ok, Err, refl, sym, ap, subst, ◌∙◌, arith, inl, inr}
+use Rattle.std.specs.Prelude.{IsUtf8, encode_utf8, nat_le, ◌==◌, ◌||◌, ◌&&◌}
 use Rattle.std.proofs.lemmas.List.{get_or-drop, length-drop}
 use Rattle.std.proofs.Math.Seq.{take-suc}
 use Rattle.std.proofs.lemmas.Str.{encode_ascii}
-use Rattle.std.proofs.lemmas.Bool.{cond-true, cond-false, and_from, eq-eqb, ne_eqb, lt-ltb, le-leb}
+use Rattle.std.proofs.lemmas.Bool.{cond-true, cond-false, and_from, eq-eqb, ne_eqb, le-leb}
+use Rattle.std.proofs.lemmas.Bool.Decides.{nat_tests}
 use Rattle.json_value.specs.declared.fault.JsonFault.{JsonFault}
 use Rattle.json_value.specs.declared.fault.JsonFault.TheVariants as faults
 use Rattle.json_value.specs.Strings.{within, is_plain, is_tail, short, hex_digit, is_high, is_low, join, four_digits}
@@ -20,7 +21,7 @@ use Rattle.json_machine.specs.Grown.{Grown}
 use Rattle.json_machine.specs.Grown as g
 use Rattle.json_machine.specs.Progress as s
 use Rattle.json_machine.specs.Left.{TextLeft}
-use Rattle.json_machine.specs.Scan.{Scanned, Unescaped, none, one, lead, scan, wide_by, plain_scan, short_by, escape_scan, unit_scan, grow, hex_by, hex_grown, hex_scan, may_be_low, pair_scan, low_grown, low_by, low_scan, wide_next, wide_scan, tail_low, tail_high, slash_scan, letter_scan}
+use Rattle.json_machine.specs.Scan.{Scanned, Unescaped, none, one, lead, scan, plain_scan, short_by, escape_scan, unit_scan, grow, hex_by, hex_grown, hex_scan, may_be_low, pair_scan, low_grown, low_by, low_scan, wide_next, wide_scan, tail_low, tail_high, slash_scan, letter_scan}
 use Rattle.json_machine.specs.Onward.{Reading, Closed, reading, reading_by, text_from, cut}
 use Rattle.json_read.specs.Reading.{Fails, ReadsRun, ReadsWide, ReadsTail, ReadsEscape, ReadsDigit, ReadsUnit, ReadsLow, ReadsByte, ReadsPair, ReadsText}
 use Rattle.json_machine.proofs.TextsGo.{digit_steps}
@@ -45,19 +46,9 @@ tail_bad bytes at place low high lt is tail text lows highs =
     let bad : within (tail_low tail) (tail_high tail) (get_or bytes at 0) ≡ false = ap (λ (l : ℕ). within l (tail_high tail) (get_or bytes at 0)) lows ∙ (ap (λ (h : ℕ). within low h (get_or bytes at 0)) highs ∙ is) in
     fails_at _ _ _ (scan_fails bytes at (get_or bytes at 0) (p.Wide place tail) text (e.Malformed place) lt refl (tail_scan_bad at place tail text (get_or bytes at 0) bad)) refl
 
--- neither a quote nor a backslash
-not_edge : (b : ℕ) → (b == 34 || b == 92) ≡ false → ((b == 34) ≡ false) × ((b == 92) ≡ false)
-not_edge b is = by_test (b == 34) (b == 92) is
-  where
-    by_test : (x y : Bool) → (x || y) ≡ false → (x ≡ false) × (y ≡ false)
-    by_test true y h = absurd cc
-    by_test false y h = (refl, h)
-
 lead_bad : (at : ℕ) (text : List ℕ) (b : ℕ) → is_plain b ≡ false → (b == 34 || b == 92) ≡ false → lead b ≡ None → scan false at p.Plain text b ≡ Err e.Syntax
 unfolding scan plain_scan
-lead_bad at text b plain edge is =
-    let k = not_edge b edge in
-    cond-false (b == 34) _ _ k.0 ∙ (cond-false (b == 92) _ _ k.1 ∙ (cond-false (is_plain b) _ _ plain ∙ ap (wide_by at text b) is))
+lead_bad at text b plain edge is = grind (arith, nat_tests)
 
 pub wide_bad : (bytes : List ℕ) (at : ℕ) → at < length bytes → is_plain (get_or bytes at 0) ≡ false → (get_or bytes at 0 == 34 || get_or bytes at 0 == 92) ≡ false → lead (get_or bytes at 0) ≡ None → ReadsWide bytes at (Err (faults.Syntax at))
 wide_bad bytes at lt plain edge is text = fails_at _ _ _ (scan_fails bytes at (get_or bytes at 0) p.Plain text e.Syntax lt refl (lead_bad at text (get_or bytes at 0) plain edge is)) refl
@@ -275,14 +266,11 @@ low_fails bytes at place high quad text low top fault rejects (inr (lt, is, outs
 first_low : (bytes : List ℕ) (at place high a : ℕ) (text : List ℕ) → ReadsLow bytes at place 13 13 (Ok a) → text_from bytes at (p.Low place high q.Nothing) text ≡ text_from bytes (at + 1) (p.Low place high (q.One a)) text
 first_low bytes at place high a text low = low_on bytes at place high q.Nothing (q.One a) text 13 13 a low refl (eq-eqb a 13 (let is : a ≡ 13 = omega (arith, low.2, low.3) in is))
 
-is_thirteen : (a : ℕ) → 13 ≤ a → a ≤ 13 → (a == 13) ≡ true
-is_thirteen a le ge = eq-eqb a 13 (let is : a ≡ 13 = omega arith in is)
-
 two_may : (a b : ℕ) → 13 ≤ a → a ≤ 13 → 12 ≤ b → b ≤ 15 → may_be_low (q.Two a b) ≡ true
-two_may a b la ha lb hb = and_from (a == 13) (within 12 15 b) (is_thirteen a la ha) (and_from (nat_le 12 b) (nat_le b 15) (le-leb 12 b lb) (le-leb b 15 hb))
+two_may a b la ha lb hb = grind (arith, nat_tests)
 
 three_may : (a b c : ℕ) → 13 ≤ a → a ≤ 13 → 12 ≤ b → b ≤ 15 → c ≤ 15 → may_be_low (q.Three a b c) ≡ true
-three_may a b c la ha lb hb hc = and_from (a == 13) (within 12 15 b && nat_lt c 16) (is_thirteen a la ha) (and_from (within 12 15 b) (nat_lt c 16) (and_from (nat_le 12 b) (nat_le b 15) (le-leb 12 b lb) (le-leb b 15 hb)) (lt-ltb c 16 (omega arith)))
+three_may a b c la ha lb hb hc = grind (arith, nat_tests)
 
 after_one : (bytes : List ℕ) (at place a : ℕ) → Begun bytes at place → ReadsLow bytes (at + 2) place 13 13 (Ok a) → (high : ℕ) (text : List ℕ) → text_from bytes at (p.Slash place high) text ≡ text_from bytes (at + 3) (p.Low place high (q.One a)) text
 after_one bytes at place a begun low1 high text =
@@ -302,19 +290,13 @@ after_three bytes at place a b c begun low1 low2 low3 high text =
 
 -- a digit that makes no low half
 first_rejects : (place high : ℕ) (text : List ℕ) (d : ℕ) → within 13 13 d ≡ false → low_grown place high text (grow q.Nothing d) ≡ Err (e.Surrogate place)
-first_rejects place high text d outside = cond-false (d == 13) _ _ (ne_eqb d 13 (λ is. never (ap (within 13 13) (sym is) ∙ outside)))
-  where
-    never : within 13 13 13 ≡ false → ⊥
-    never h = absurd cc
+first_rejects place high text d outside = grind (arith, nat_tests)
 
 second_rejects : (place high a : ℕ) (text : List ℕ) (d : ℕ) → 13 ≤ a → a ≤ 13 → within 12 15 d ≡ false → low_grown place high text (grow (q.One a) d) ≡ Err (e.Surrogate place)
-second_rejects place high a text d la ha outside = cond-false (a == 13 && within 12 15 d) _ _ (ap (λ (t : Bool). t && within 12 15 d) (is_thirteen a la ha) ∙ outside)
+second_rejects place high a text d la ha outside = grind (arith, nat_tests)
 
 no_digit : (d : ℕ) → d ≤ 15 → within 0 15 d ≡ false → ⊥
-no_digit d le outside = never (sym (and_from (nat_le 0 d) (nat_le d 15) (le-leb 0 d (omega arith)) (le-leb d 15 le)) ∙ outside)
-  where
-    never : true ≡ false → ⊥
-    never h = absurd cc
+no_digit d le outside = grind (arith, nat_tests)
 
 pub first_low_fails : (bytes : List ℕ) (at place : ℕ) (fault : JsonFault) (u v : Unit {0}) → ReadsByte bytes at place 92 (Ok u) → ReadsByte bytes (at + 1) place 117 (Ok v) → ReadsLow bytes (at + 2) place 13 13 (Err fault) → ReadsPair bytes at place (Err fault)
 first_low_fails bytes at place fault u v slash letter fails high text =

@@ -1,8 +1,9 @@
 -- White space, words and numbers.
-use Rattle.std.proofs.Common.{◌≡◌, ℕ, ◌+◌, ◌<◌, ◌≤◌, Bool, true, false, cond, List, [], ◌∷◌, ◌++◌, length, get_or, Option, Some, None, Ok, Err, refl, sym, ap, subst, ◌∙◌, arith, append_assoc, ◌⊎◌, inl, inr}
-use Rattle.std.specs.Prelude.{nat_lt, ◌==◌, ◌&&◌, slice_index, IsUtf8}
+use Rattle.std.proofs.Common.{◌≡◌, ℕ, ◌+◌, ◌<◌, ◌≤◌, Bool, true, false, List, [], ◌∷◌, ◌++◌, length, get_or, Option, Some, None, Ok, Err, refl, sym, ap, subst, ◌∙◌, arith, append_assoc, ◌⊎◌, inl, inr}
+use Rattle.std.specs.Prelude.{slice_index, IsUtf8}
 use Rattle.std.proofs.lemmas.List.{append-nil}
-use Rattle.std.proofs.lemmas.Bool.{cond-true, cond-false, and_from, lt-ltb, eq-eqb, ne_eqb, cases_lt}
+use Rattle.std.proofs.lemmas.Bool.{cond-true, cond-false, cases_lt}
+use Rattle.std.proofs.lemmas.Bool.Decides.{nat_tests}
 use Rattle.json_value.specs.declared.tree.Json.TheVariants as j
 use Rattle.json_value.specs.declared.fault.JsonFault.TheVariants as faults
 use Rattle.json_value.specs.Grammar.{strict, is_blank}
@@ -14,7 +15,7 @@ use Rattle.json_machine.specs.Mode.{Mode}
 use Rattle.json_machine.specs.Mode as m
 use Rattle.json_machine.specs.Numbers.{number_start, number_next, may_end}
 use Rattle.json_machine.specs.Left.{CompletesNumber}
-use Rattle.json_machine.specs.Machine.{Frames, to, step, letters, meant, word_step, number_go, number_step, value_step, finish_by, number_end}
+use Rattle.json_machine.specs.Machine.{Frames, to, step, letters, word_step, number_go, number_step, value_step, finish_by, number_end}
 use Rattle.json_machine.specs.Onward.{Skips, read_from, cut}
 use Rattle.json_read.specs.Reading.{ReadsOn, Anywhere, worded, NumberFollows}
 use Rattle.json_machine.proofs.Complete.{number_begins, number_not_blank}
@@ -32,29 +33,16 @@ blank_more bytes at i lt blank so_far mode fs skips = so_far mode fs skips ∙ s
 abbrev pub Spelled : List ℕ → ℕ → Word → ℕ → ℕ → Type 0
 Spelled bytes at word i read = (fs : Frames) → read_from bytes at (m.Word word 1) fs ≡ read_from bytes i (worded word read) fs
 
-is_worded : (word : Word) (read : ℕ) (fs : Frames) → cond (nat_lt read (length (letters word))) (to (m.Word word read) fs) (to (m.After (meant word)) fs) ≡ to (worded word read) fs
-is_worded word read fs = by_test (nat_lt read (length (letters word)))
-  where
-    by_test : (t : Bool) → cond t (to (m.Word word read) fs) (to (m.After (meant word)) fs) ≡ to (cond t (m.Word word read) (m.After (meant word))) fs
-    by_test true = refl
-    by_test false = refl
-
 letter_steps : (word : Word) (read b at : ℕ) (fs : Frames) → read < length (letters word) → b ≡ slice_index (letters word) read → step strict at (record { mode = m.Word word read; frames = fs }) b ≡ to (worded word (read + 1)) fs
 unfolding step word_step
-letter_steps word read b at fs lt is =
-    cond-true (nat_lt read (length (letters word)) && b == slice_index (letters word) read) _ _ (and_from (nat_lt read (length (letters word))) _ (lt-ltb read (length (letters word)) lt) (eq-eqb b (slice_index (letters word) read) is))
-    ∙ is_worded word (read + 1) fs
+letter_steps word read b at fs lt is = grind (arith, nat_tests)
 
 letter_refused : (word : Word) (read b at : ℕ) (fs : Frames) → (b ≡ slice_index (letters word) read → ⊥) → step strict at (record { mode = m.Word word read; frames = fs }) b ≡ Err e.Syntax
 unfolding step word_step
-letter_refused word read b at fs not = by_test (nat_lt read (length (letters word)))
-  where
-    by_test : (t : Bool) → cond (t && b == slice_index (letters word) read) (cond (nat_lt (read + 1) (length (letters word))) (to (m.Word word (read + 1)) fs) (to (m.After (meant word)) fs)) (Err e.Syntax) ≡ Err e.Syntax
-    by_test true = cond-false (b == slice_index (letters word) read) _ _ (ne_eqb b (slice_index (letters word) read) not)
-    by_test false = refl
+letter_refused word read b at fs not = grind (arith, nat_tests)
 
 in_word : (word : Word) (read : ℕ) → read < length (letters word) → worded word read ≡ m.Word word read
-in_word word read lt = cond-true (nat_lt read (length (letters word))) _ _ (lt-ltb read (length (letters word)) lt)
+in_word word read lt = grind (arith, nat_tests)
 
 pub word_more : (bytes : List ℕ) (at i : ℕ) (word : Word) (read : ℕ) → i < length bytes → read < length (letters word) → get_or bytes i 0 ≡ slice_index (letters word) read → Spelled bytes at word i read → Spelled bytes at word (i + 1) (read + 1)
 word_more bytes at i word read lt within is so_far fs =

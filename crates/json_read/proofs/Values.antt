@@ -1,5 +1,5 @@
 -- Values, lists and objects.
-use Rattle.std.proofs.Common.{◌≡◌, ◌≢◌, ℕ, zero, suc, ◌+◌, ◌-◌, ◌<◌, ◌≤◌, Bool, true, false, List, [], ◌∷◌, ◌++◌, length, drop, get_or, None, Result, Ok, Err, refl, sym, ap, subst, ◌∙◌, arith, ◌⊎◌, inl, inr}
+use Rattle.std.proofs.Common.{◌≡◌, ◌≢◌, ℕ, ◌+◌, ◌-◌, ◌<◌, ◌≤◌, Bool, true, false, List, [], ◌∷◌, ◌++◌, length, drop, get_or, None, Result, Ok, Err, refl, sym, ap, subst, ◌∙◌, arith, ◌⊎◌, inl, inr}
 use Rattle.std.specs.Prelude.{nat_lt, ◌==◌, if◌then◌else◌}
 use Rattle.std.proofs.lemmas.Bool.{cond-true, cond-false, lt-ltb, le-ltb, ne_eqb, cases_lt}
 use Rattle.json_value.specs.declared.tree.Json.{Json}
@@ -340,8 +340,7 @@ pub mark_is : (bytes : List ℕ) (at bracket place : ℕ) (more b : Bool) → mo
 mark_is bytes at bracket place more b is h = subst (λ (t : Bool). ReadsMark bytes at bracket (Ok (t, place))) is h
 
 pub some_room : (room : ℕ) → room ≢ 0 → 0 < room
-some_room zero not = absurd (not refl)
-some_room (suc n) not = omega arith
+some_room room not = omega (arith, not)
 
 -- ---- whole texts
 
