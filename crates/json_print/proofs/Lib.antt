@@ -4,3 +4,4 @@ pub mod Equations
 pub mod Wide
 pub mod Respelled
 pub mod RoundTrip
+pub mod Letters

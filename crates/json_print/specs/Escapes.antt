@@ -1,5 +1,5 @@
 -- How a string is written (RFC 8259, section 7): what must be escaped is, and nothing else.
-use Rattle.std.specs.Prelude.{◌≡◌, ℕ, ◌+◌, ◌/◌, ◌%◌, ◌<◌, ◌≤◌, ◌==◌, ◌⊎◌, nat_lt, if◌then◌else◌, List, [], ◌∷◌, ◌++◌, codes, get_or}
+use Rattle.std.specs.Prelude.{◌≡◌, ℕ, zero, suc, ◌+◌, ◌/◌, ◌%◌, ◌<◌, ◌≤◌, ◌==◌, ◌⊎◌, nat_lt, if◌then◌else◌, List, [], ◌∷◌, ◌++◌, codes, get_or}
 
 -- the control characters, the quote and the backslash
 abbrev pub NeedsEscape : ℕ → Type 0
@@ -33,6 +33,11 @@ escape b =
     (if b == 12 then codes "\\f" else
     (if b == 13 then codes "\\r" else
     (if nat_lt b 32 then control b else b ∷ [])))))))
+
+-- a letter after a backslash is how a byte is escaped, and where it is 0 the byte's number is
+abbrev pub IsLetterOf : ℕ → ℕ → Type 0
+IsLetterOf b zero = (escape b ≡ control b) × (b < 32)
+IsLetterOf b (suc n) = (escape b ≡ 92 ∷ (suc n ∷ [])) × (suc n < 128)
 
 abbrev pub escaped : List ℕ → List ℕ
 escaped [] = []

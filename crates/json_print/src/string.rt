@@ -1,12 +1,20 @@
 ghost use Rattle.std.specs.Prelude.{◌≡◌, ◌<◌, ◌≤◌, ◌↔◌, ◌++◌, OnOk, IsTrue, length, get_or};
 ghost use Rattle.std.specs.Prelude.{string_bytes};
 ghost use Rattle.json_print.specs.Escapes.{NeedsEscape, ArePlain, HasEscape, hex, control, escape};
-ghost use Rattle.json_print.specs.Escapes.{escaped, quoted};
+ghost use Rattle.json_print.specs.Escapes.{escaped, quoted, IsLetterOf};
 
 use flow_base::Memory;
 
 /// How many bytes are looked at together in a long text: so many that the compiler tests them by wide registers.
 const BLOCK: usize = 8;
+
+/// The letter for each byte that may need an escape. It is looked up, since nothing tells before which comes.
+const LETTERS: [u8; 93] = [
+    0, 0, 0, 0, 0, 0, 0, 0, 98, 116, 110, 0, 102, 114, 0, 0, 0, 0, 0, 0, 0, 0, 0, 0, 0, 0, 0, 0, 0,
+    0, 0, 0, 0, 0, 34, 0, 0, 0, 0, 0, 0, 0, 0, 0, 0, 0, 0, 0, 0, 0, 0, 0, 0, 0, 0, 0, 0, 0, 0, 0,
+    0, 0, 0, 0, 0, 0, 0, 0, 0, 0, 0, 0, 0, 0, 0, 0, 0, 0, 0, 0, 0, 0, 0, 0, 0, 0, 0, 0, 0, 0, 0, 0,
+    92,
+];
 
 /// Appends the text with its escapes between two quotes. What needs no escape goes in runs.
 pub fn put_quoted(out: &mut String, text: &str) -> Result<(), Memory>
@@ -77,17 +85,21 @@ fn put_escape(out: &mut String, byte: u8) -> Result<(), Memory>
     requires { NeedsEscape byte }
     ensures { OnOk result (string_bytes out.new ≡ string_bytes out.old ++ escape byte) }
 {
-    match byte {
-        b'"' => out.push_str("\\\"")?,
-        b'\\' => out.push_str("\\\\")?,
-        8 => out.push_str("\\b")?,
-        9 => out.push_str("\\t")?,
-        10 => out.push_str("\\n")?,
-        12 => out.push_str("\\f")?,
-        13 => out.push_str("\\r")?,
-        _ => put_unit(out, byte)?,
+    let letter = letter_of(byte);
+    if letter == 0 {
+        return put_unit(out, byte);
     }
+    out.push('\\')?;
+    out.push(char::from(letter))?;
     Ok(())
+}
+
+/// The letter that stands after the backslash for a byte, and 0 where its number does.
+fn letter_of(byte: u8) -> u8
+    requires { NeedsEscape byte }
+    ensures letter { IsLetterOf byte result }
+{
+    LETTERS[byte as usize]
 }
 
 /// Appends the four hexadecimal digits of a control character after `\u`.
